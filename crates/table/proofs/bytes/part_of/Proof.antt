@@ -1,0 +1,80 @@
+use mathlib.Core.Path.{sym}
+use native.Mathlib.Nat.{add-sub-cancel-left}
+use Rattle.table.proofs.BytesLaws.{part-past, part-end}
+use borrow.Author.Needs.{needs}
+use Rattle.table.proofs.bytes.part_of.Statement.{statement}
+use Rattle.table.proofs.bytes.part_of.Tie as tie
+use Rattle.table.proofs.bytes.part_of.Reads as reads
+use Rattle.table.proofs.bytes.part_of.Lts as lts
+
+-- src/bytes.rt:13:9
+slice-aggregate-result : tie.Need-slice-aggregate-result
+slice-aggregate-result c = search needs
+
+-- src/bytes.rt:13:9
+returns : tie.Need-returns
+returns c =
+    let b1 = c .before in
+    let b2 = b1 .before in
+    sym (part-past (b2 .args .s .now) _ (b2 .args .n) (b1 .if1 .taken))
+
+-- src/bytes.rt:15:13
+sub-if2 : tie.Need-sub-if2
+sub-if2 c = search needs
+
+-- src/bytes.rt:16:17
+add-e : tie.Need-add-e
+add-e c = search needs
+
+-- src/bytes.rt:17:9
+sub-result : tie.Need-sub-result
+sub-result c = search needs
+
+-- src/bytes.rt:17:9
+part-result-start : tie.Need-part-result-start
+part-result-start c = search needs
+
+-- src/bytes.rt:17:9
+part-result-end : tie.Need-part-result-end
+part-result-end c = search needs
+
+-- src/bytes.rt:19:9
+sub-result-2 : tie.Need-sub-result-2
+sub-result-2 c = search needs
+
+-- src/bytes.rt:19:9
+part-result-start-2 : tie.Need-part-result-start-2
+part-result-start-2 c = search needs
+
+-- src/bytes.rt:19:9
+part-result-end-2 : tie.Need-part-result-end-2
+part-result-end-2 c = search needs
+
+-- src/bytes.rt:9:1
+returns-2 : tie.Need-returns-2
+returns-2 c =
+    rw add-sub-cancel-left
+
+-- src/bytes.rt:9:1
+returns-3 : tie.Need-returns-3
+returns-3 c =
+    let b1 = c .before in
+    let b3 = b1 .before .before in
+    part-end (b3 .args .s .now) _ _ (b1 .if2 .left)
+
+pub part-of-spec : {M : Type 1} → statement M
+part-of-spec =
+    tie.close
+    (tie.spec
+    slice-aggregate-result
+    returns
+    sub-if2
+    add-e
+    sub-result
+    part-result-start
+    part-result-end
+    sub-result-2
+    part-result-start-2
+    part-result-end-2
+    returns-2
+    returns-3)

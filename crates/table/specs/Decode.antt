@@ -1,0 +1,36 @@
+-- Reading: questions 1 to 7 over a whole image. 2 to 6 come in file order, 7 after all entries. Bytes after the last entry are ignored.
+use Prim.Native.Nat.{ℕ}
+use mathlib.Core.List.{List, []}
+use mathlib.Core.Bool.{Bool, true, false}
+use lib.ListN.{length}
+use lib.Dec.{leb}
+use Rattle.wire.specs.Parse.{Refusal, refusal, Parsed, ok, refused, Parser, then, pure, _>>=_, _>>_, asked, ask, many}
+use Rattle.table.specs.Table.{CoeffTable, PitchEntry}
+use Rattle.table.specs.Image.{Header, header, entries}
+use Rattle.table.specs.Span.{askSpans}
+
+abbrev pub size : Parser ℕ
+size s at = ok (length s) at
+
+-- question 1: is the image at most 65,536 bytes?
+abbrev pub table : Parser CoeffTable
+table = do
+  z ← size
+  ask (leb z 65536) (refusal 1 0 0)
+  h ← header
+  es ← entries (h .count)
+  askSpans es
+  pure (record { version = h .version; name = h .name; entries = es })
+
+-- an image's table and the end of its last entry, or the refusal
+unfoldable pub decode : List ℕ → Parsed CoeffTable
+decode s = table s 0
+
+-- the entries and the name of an image's table; of a refused image, none
+abbrev pub entriesOf : Parsed CoeffTable → List PitchEntry
+entriesOf (ok t end) = t .entries
+entriesOf (refused r) = []
+
+abbrev pub nameOf : Parsed CoeffTable → List ℕ
+nameOf (ok t end) = t .name
+nameOf (refused r) = []

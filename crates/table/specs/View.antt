@@ -1,0 +1,46 @@
+-- An entry where it stands in an image: which entry a view is of, and where the parts of an entry stand.
+use Prim.Native.Nat.{ℕ, zero, suc, _+_, _*_}
+use mathlib.Core.Path.{_≡_}
+use mathlib.Core.List.{List, [], _∷_}
+use lib.ListN.{length}
+use Rattle.wire.specs.Parse.{standing}
+use Rattle.wire.specs.Cursor.{le32}
+use Rattle.table.specs.declared.entry.EntryView.{EntryView}
+use Rattle.table.specs.declared.entry.EntryRead.{EntryRead}
+use Rattle.table.specs.Table.{Pair, PitchEntry}
+use Rattle.table.specs.Image.{pair, entry}
+
+-- the n 32-bit numbers that stand at a position
+unfoldable pub wordList : List ℕ → ℕ → ℕ → List ℕ
+wordList s at zero = []
+wordList s at (suc n) = le32 s at ∷ wordList s (at + 4) n
+
+-- the pairs and the entries that stand at a position, up to the first that cannot be read
+abbrev pub pairList : ℕ → List ℕ → ℕ → List Pair
+pairList n s at = standing (λ i. pair) 0 n s at
+
+abbrev pub entryList : ℕ → List ℕ → ℕ → List PitchEntry
+entryList n s at = standing entry 0 n s at
+
+-- the entry that a view is of
+abbrev pub entryAt : List ℕ → EntryView → PitchEntry
+entryAt s v = record {
+  f0Hz = v .«f0_hz»;
+  stretch = v .stretch;
+  partialFreqs = wordList s (v .«partials_at») (v .«m_partials»);
+  kChannels = v .«k_channels»;
+  jNoise = v .«j_noise»;
+  coefficients = wordList s (v .«coefficients_at») (v .coefficients);
+  metadata = pairList (v .pairs) s (v .«pairs_at»);
+}
+
+-- where the parts of an entry that starts at a position stand
+pub record Placed (at : ℕ) (v : EntryView) : Type 0 where
+  pub partials : v .«partials_at» ≡ at + 12
+  pub coefficients : v .«coefficients_at» ≡ at + 24 + 4 * v .«m_partials»
+  pub pairs : v .«pairs_at» ≡ at + 28 + 4 * v .«m_partials» + 4 * v .coefficients
+
+-- of an entry that could not be read there is nothing to place
+abbrev pub PlacedRead : ℕ → EntryRead → Type 0
+PlacedRead at (EntryRead.Entry v) = Placed at v
+PlacedRead at (EntryRead.Refused e) = Unit

@@ -1,0 +1,83 @@
+// Reading an image: questions 1 to 7.
+ghost use mathlib.Core.Path.{_≡_};
+ghost use Rattle.table.specs.declared.span.Baseline.{Baseline};
+ghost use Rattle.table.specs.Image.{entries};
+ghost use Rattle.table.specs.Decode.{decode, nameOf};
+ghost use Rattle.table.specs.Answer.{readingParsed, counts};
+ghost use Rattle.table.specs.Baseline.{verdictFrom, concluded, outcome};
+ghost use mathlib.Core.List.{[]};
+use crate::bytes::part_of;
+use crate::entry::entry_at;
+use crate::entry::EntryRead;
+use crate::error::CoeffTableCodecError;
+use crate::header::header_at;
+use crate::header::HeaderRead;
+use crate::span::judge;
+use crate::span::span_of;
+use crate::span::Baseline;
+use wire::cursor::Cursor;
+
+// The entry count and the end of the last entry, or why the image is refused.
+pub enum Reading {
+    Accepted(usize, usize),
+    Refused(CoeffTableCodecError),
+}
+
+fn conclude(j: Baseline, n: usize, end: usize) -> Reading
+    ensures { λ r. ⌜ readingParsed r ≡ concluded (verdictFrom j n []) n end ⌝ }
+{
+    match j {
+        Baseline::Broken(f, b) => Reading::Refused(CoeffTableCodecError::InconsistentNoiseBandSpan(f, b)),
+        Baseline::Start => Reading::Accepted(n, end),
+        Baseline::Neither => Reading::Accepted(n, end),
+        Baseline::Both(_, _) => Reading::Accepted(n, end),
+    }
+}
+
+// The n entries at a cursor, and question 7 of all. The loop ends at the first entry that is not there, however large n is.
+fn entries_at(s: &[u8], c: Cursor, n: usize) -> Reading
+    ensures { λ r. ⌜ readingParsed r ≡ outcome Baseline.Start 0 (entries n (now (s .entry)) (c .at)) ⌝ }
+{
+    let mut d = c;
+    let mut i = 0;
+    let mut j = Baseline::Start;
+    while i < n {
+        match entry_at(s, d, i) {
+            EntryRead::Entry(v) => {
+                j = judge(j, i, span_of(s, v));
+                d = Cursor { at: v.end };
+            }
+            EntryRead::Refused(e) => {
+                return Reading::Refused(e);
+            }
+        }
+        i += 1;
+    }
+    conclude(j, n, d.at)
+}
+
+// Reads a whole image.
+pub fn from_bytes(image: &[u8]) -> Reading
+    ensures { λ r. ⌜ readingParsed r ≡ counts (decode (now (image .entry))) ⌝ }
+{
+    if 65536 < image.len() {
+        return Reading::Refused(CoeffTableCodecError::TooLong);
+    }
+    match header_at(image) {
+        HeaderRead::Refused(e) => Reading::Refused(e),
+        HeaderRead::Header(h) => entries_at(image, Cursor { at: h.end }, h.count as usize),
+    }
+}
+
+// The table's name, as the part of the image that holds it; the empty part where the image is refused.
+pub fn name(image: &[u8]) -> &[u8]
+    ensures { λ r. ⌜ now r ≡ nameOf (decode (now (image .entry))) ⌝ }
+{
+    match from_bytes(image) {
+        Reading::Refused(_) => &image[..0],
+        Reading::Accepted(_, _) => match header_at(image) {
+            HeaderRead::Refused(_) => &image[..0],
+            HeaderRead::Header(h) => part_of(image, h.name_at, h.name),
+        },
+    }
+}

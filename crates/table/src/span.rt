@@ -1,0 +1,101 @@
+// Question 7: the noise-band span of each entry, and whether all agree with the first's.
+ghost use mathlib.Core.Path.{_≡_};
+ghost use Rattle.table.specs.Span.{spanFrom, spanOf, floatEq};
+ghost use Rattle.table.specs.Baseline.{judged};
+ghost use mathlib.Core.Bool.{_&&_};
+ghost use Rattle.table.specs.View.{entryAt};
+ghost use Rattle.table.specs.Answer.{foundBits};
+use crate::entry::metadata_value;
+use crate::entry::EntryView;
+use crate::metadata::Found;
+
+// The two keys of the span in one entry, with the values' bits.
+pub enum Span {
+    Neither,
+    Both(u32, u32),
+    Lone,
+}
+
+// What the entries so far agree on, or the first that broke it (first_entry and index).
+pub enum Baseline {
+    Start,
+    Neither,
+    Both(u32, u32),
+    Broken(usize, usize),
+}
+
+fn span_from(low: Found, high: Found) -> Span
+    ensures { λ r. ⌜ r ≡ spanFrom (foundBits low) (foundBits high) ⌝ }
+{
+    match low {
+        Found::Bits(a) => match high {
+            Found::Bits(b) => Span::Both(a, b),
+            Found::Nothing => Span::Lone,
+        },
+        Found::Nothing => match high {
+            Found::Bits(_) => Span::Lone,
+            Found::Nothing => Span::Neither,
+        },
+    }
+}
+
+// The span that an entry's metadata gives.
+pub fn span_of(s: &[u8], v: EntryView) -> Span
+    ensures { λ r. ⌜ r ≡ spanOf (entryAt (now (s .entry)) v) ⌝ }
+{
+    let low = metadata_value(s, v, b"noise_band_min_hz");
+    let high = metadata_value(s, v, b"noise_band_max_hz");
+    span_from(low, high)
+}
+
+// Whether two bit patterns are equal as floats.
+fn float_eq(a: u32, b: u32) -> bool
+    ensures { λ r. ⌜ r ≡ floatEq a b ⌝ }
+{
+    if 0x7F800000 < a % 0x80000000 {
+        return false;
+    }
+    if 0x7F800000 < b % 0x80000000 {
+        return false;
+    }
+    f32::from_bits(a) == f32::from_bits(b)
+}
+
+fn both_eq(x: u32, y: u32, a: u32, b: u32) -> bool
+    ensures { λ r. ⌜ r ≡ floatEq x a && floatEq y b ⌝ }
+{
+    if float_eq(x, a) {
+        return float_eq(y, b);
+    }
+    false
+}
+
+// The entry with index i, whose span is sp, beside what went before it.
+pub fn judge(j: Baseline, i: usize, sp: Span) -> Baseline
+    ensures { λ r. ⌜ r ≡ judged j i sp ⌝ }
+{
+    match j {
+        Baseline::Broken(f, b) => Baseline::Broken(f, b),
+        Baseline::Start => match sp {
+            Span::Lone => Baseline::Broken(i, i),
+            Span::Neither => Baseline::Neither,
+            Span::Both(a, b) => Baseline::Both(a, b),
+        },
+        Baseline::Neither => match sp {
+            Span::Lone => Baseline::Broken(i, i),
+            Span::Neither => Baseline::Neither,
+            Span::Both(_, _) => Baseline::Broken(0, i),
+        },
+        Baseline::Both(x, y) => match sp {
+            Span::Lone => Baseline::Broken(i, i),
+            Span::Neither => Baseline::Broken(0, i),
+            Span::Both(a, b) => {
+                if both_eq(x, y, a, b) {
+                    Baseline::Both(x, y)
+                } else {
+                    Baseline::Broken(0, i)
+                }
+            }
+        },
+    }
+}

@@ -1,0 +1,4 @@
+pub mod Laws
+pub mod Found
+pub mod Apart
+pub mod Many

@@ -1,0 +1,60 @@
+use Prim.Native.Nat.{ℕ}
+use mathlib.Core.Path.{_≡_, sym, ap, _∙_}
+use Rattle.wire.specs.Parse.{Parsed, then}
+use Rattle.wire.specs.Cursor.{stringOf, string, u32Parsed}
+use borrow.Author.Needs.{needs}
+use Rattle.wire.proofs.cursor.Cursor.string.Statement.{statement}
+use Rattle.wire.proofs.cursor.Cursor.string.Tie as tie
+use Rattle.wire.proofs.cursor.Cursor.string.Reads as reads
+use Rattle.wire.proofs.cursor.Cursor.string.Lts as lts
+use Rattle.wire.proofs.cursor.Cursor.u32.Reads as u32-reads
+use Rattle.wire.proofs.cursor.string_of.Reads as string-of-reads
+
+-- src/cursor.rt:109:15
+u32-requires : tie.Need-u32-requires
+u32-requires c κs = search needs
+
+-- src/cursor.rt:110:28
+enum-known-n : tie.Need-enum-known-n
+enum-known-n c = search needs
+
+-- src/cursor.rt:110:56
+cast-string-of : tie.Need-cast-string-of
+cast-string-of c = search needs
+
+-- src/cursor.rt:110:37
+string-of-requires : tie.Need-string-of-requires
+string-of-requires c κs = search needs
+
+-- src/cursor.rt:111:39
+enum-told : tie.Need-enum-told
+enum-told c = search needs
+
+-- src/cursor.rt:106:5
+returns : tie.Need-returns
+unfolding string
+returns c =
+    let b2 = c .before .before in
+    let b4 = b2 .before .before in
+    let b6 = b4 .before .before in
+    c .string-of .ensures ∙ ap (λ (w : Parsed ℕ). then w (λ n m. stringOf n (b6 .args .s .now) m)) (sym (ap u32Parsed (b2 .n .given .1)) ∙ b4 .u32 .ensures)
+
+-- src/cursor.rt:106:5
+returns-2 : tie.Need-returns-2
+unfolding string
+returns-2 c =
+    let b2 = c .before .before in
+    let b4 = b2 .before .before in
+    ap (λ (w : Parsed ℕ). then w (λ n m. stringOf n (b4 .args .s .now) m)) (sym (ap u32Parsed (c .enum-told .given .1)) ∙ b2 .u32 .ensures)
+
+pub string-spec : {M : Type 1} → statement M
+string-spec =
+    tie.close
+    (tie.spec
+    u32-requires
+    enum-known-n
+    cast-string-of
+    string-of-requires
+    enum-told
+    returns
+    returns-2)

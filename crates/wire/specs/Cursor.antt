@@ -1,0 +1,80 @@
+-- What stands at a position of the image: little-endian numbers, parts and strings, each with its questions.
+-- Every answer of the code that is an enum is given its value and next position, or its refusal, by a definition here.
+use Prim.Native.Nat.{ℕ, _+_, _*_}
+use mathlib.Core.List.{List}
+use mathlib.Core.Bool.{Bool, true, false}
+use lib.ListN.{length, getD, take, drop}
+use lib.Dec.{leb}
+use Rattle.wire.specs.declared.cursor.Cursor.{Cursor}
+use Rattle.wire.specs.declared.cursor.Taken.{Taken}
+use Rattle.wire.specs.declared.cursor.U16Read.{U16Read}
+use Rattle.wire.specs.declared.cursor.U32Read.{U32Read}
+use Rattle.wire.specs.declared.cursor.StringRead.{StringRead}
+use Rattle.wire.specs.Parse.{Refusal, refusal, Parsed, ok, refused, Parser, pick, then, pure, _>>=_, _>>_, asked}
+use Rattle.wire.specs.Utf8.{utf8}
+
+-- question 2: are the bytes that the field needs there? Question 5: is the string UTF-8?
+abbrev pub unexpectedEof : Refusal
+unexpectedEof = refusal 2 0 0
+
+abbrev pub badUtf8 : Refusal
+badUtf8 = refusal 5 0 0
+
+-- the n bytes from a position on
+abbrev pub part : List ℕ → ℕ → ℕ → List ℕ
+part s at n = take n (drop at s)
+
+-- little-endian numbers
+abbrev pub le16 : List ℕ → ℕ → ℕ
+le16 s at = getD s at 0 + 256 * getD s (at + 1) 0
+
+abbrev pub le32 : List ℕ → ℕ → ℕ
+le32 s at = getD s at 0 + 256 * getD s (at + 1) 0 + 65536 * getD s (at + 2) 0 + 16777216 * getD s (at + 3) 0
+
+-- n bytes: the value is where they start
+unfoldable pub takeAt : ℕ → Parser ℕ
+takeAt n s at = pick (leb (at + n) (length s)) (ok at (at + n)) (refused unexpectedEof)
+
+unfoldable pub u16 : Parser ℕ
+u16 s at = pick (leb (at + 2) (length s)) (ok (le16 s at) (at + 2)) (refused unexpectedEof)
+
+unfoldable pub u32 : Parser ℕ
+u32 s at = pick (leb (at + 4) (length s)) (ok (le32 s at) (at + 4)) (refused unexpectedEof)
+
+-- where a string's bytes stand in the image
+pub record Place : Type 0 where
+  pub start : ℕ
+  pub len : ℕ
+
+abbrev pub place : ℕ → ℕ → Place
+place at n = record { start = at; len = n }
+
+-- a string of n bytes, and one with its length before it
+unfoldable pub stringOf : ℕ → Parser Place
+stringOf n s at =
+    pick (leb (at + n) (length s))
+    (pick (utf8 (part s at n)) (ok (place at n) (at + n)) (refused badUtf8))
+    (refused unexpectedEof)
+
+unfoldable pub string : Parser Place
+string = do
+  n ← u32
+  stringOf n
+
+-- ---- the answers of the code
+abbrev pub takenParsed : Taken → Parsed ℕ
+takenParsed (Taken.Part at c) = ok at (c .at)
+takenParsed Taken.UnexpectedEof = refused unexpectedEof
+
+abbrev pub u16Parsed : U16Read → Parsed ℕ
+u16Parsed (U16Read.Value v c) = ok v (c .at)
+u16Parsed U16Read.UnexpectedEof = refused unexpectedEof
+
+abbrev pub u32Parsed : U32Read → Parsed ℕ
+u32Parsed (U32Read.Value v c) = ok v (c .at)
+u32Parsed U32Read.UnexpectedEof = refused unexpectedEof
+
+abbrev pub stringParsed : StringRead → Parsed Place
+stringParsed (StringRead.Value at n c) = ok (place at n) (c .at)
+stringParsed StringRead.UnexpectedEof = refused unexpectedEof
+stringParsed StringRead.BadUtf8 = refused badUtf8

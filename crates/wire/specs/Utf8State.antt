@@ -1,0 +1,18 @@
+-- What the UTF-8 test keeps between two bytes, as the rest of a row of RFC 3629. Cited by private functions only.
+use Prim.Native.Nat.{ℕ, zero, suc}
+use mathlib.Core.List.{List, [], _∷_}
+use Rattle.wire.specs.declared.utf8.Follow.{Follow}
+use Rattle.wire.specs.declared.utf8.Rest.{Rest}
+use Rattle.wire.specs.Utf8.{Octets, range, tail, Next, follow, bad}
+
+-- n octets: the first from `low` to `high`, the others UTF8-tail
+unfoldable pub restOf : ℕ → ℕ → ℕ → List Octets
+restOf zero lo hi = []
+restOf (suc n) lo hi = range lo hi ∷ restOf n 0x80 0xBF
+
+abbrev pub ranges : Rest → List Octets
+ranges t = restOf (t .left) (t .low) (t .high)
+
+abbrev pub followNext : Follow → Next
+followNext (Follow.Rest t) = follow (ranges t)
+followNext Follow.Bad = bad
