@@ -1,0 +1,36 @@
+-- Document 01's bench examples P7, P8 and P9, against the definitions.
+use mathlib.Core.Path.{_≡_, refl}
+use Prim.Native.Nat.{_^_}
+use mathlib.Core.Bool.{false}
+use lib.Ieee.{round, add, sub, div, ofInt, toUnsigned}
+use lib.Ieee.Exact.{HasValue}
+use Rattle.player.specs.F32.{nearest}
+use Rattle.player.specs.Phase.{advanceOf}
+use Rattle.player.specs.Rng.{bipolarOf, newRng, nextBipolar}
+use Rattle.player.specs.Wave.{quarterOf}
+
+-- P7: T at 0, 1, 64, 128, 256
+pub record P7 : Type 0 where
+  pub at-0 : quarterOf 0 ≡ 0
+  pub at-1 : quarterOf 1 ≡ 51471
+  pub at-64 : quarterOf 64 ≡ 3210683
+  pub at-128 : quarterOf 128 ≡ 5934197
+  pub at-256 : quarterOf 256 ≡ 8388608
+
+pub p7 : P7
+unfolding quarterOf
+p7 = record { at-0 = refl; at-1 = refl; at-64 = refl; at-128 = refl; at-256 = refl }
+
+-- P8: phase 0.75 gaining 0.5 is 0.25
+pub p8 : advanceOf (nearest 3 4) (nearest 1 2) ≡ nearest 1 4
+unfolding round add sub ofInt toUnsigned
+p8 = refl
+
+-- P9: seed 0 steps to 1015568748, read as 15868262 / 2^25
+pub record P9 : Type 0 where
+  pub state : nextBipolar (newRng 0) .rng .state ≡ 1015568748
+  pub value : HasValue (nextBipolar (newRng 0) .value) false 15868262 (2 ^ 25)
+
+pub p9 : P9
+unfolding bipolarOf round div ofInt
+p9 = record { state = refl; value = (refl, refl) }

@@ -1,0 +1,12 @@
+pub mod Every
+pub mod Entries
+pub mod Quarters
+pub mod Line
+pub mod Apart
+pub mod SineLaws
+pub mod NoiseLaws
+pub mod PhaseLaws
+pub mod BandLaws
+pub mod Tests
+pub mod RingLaws
+pub mod Bench

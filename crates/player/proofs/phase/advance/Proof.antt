@@ -1,0 +1,51 @@
+-- `advance` meets its contract. A test gives an order of floats with the literal by its bit pattern, which `unfolding ofBits` computes.
+use borrow.Author.Needs.{needs}
+use mathlib.Core.Path.{_≡_, sym, ap, subst}
+use mathlib.Core.Bool.{Bool, true}
+use Prim.Native.Nat.{ℕ}
+use lib.Dec.{T}
+use lib.IntN.{pos}
+use lib.Ieee.{Float, binary32, add, sub, ofInt, ofBits}
+use lib.Ieee.Fits.{add-fits}
+use Rattle.float.specs.Range.{Within}
+use Rattle.float.proofs.Fraction.{fraction-below, fraction-over, not-lt, one}
+use Rattle.float.proofs.Ints.{abs-in-float}
+use Rattle.player.proofs.PhaseLaws.{sum-small, phase-small}
+use Rattle.player.proofs.phase.advance.Statement.{statement}
+use Rattle.player.proofs.phase.advance.Tie as tie
+
+abbrev x-of : tie.Start → Float
+x-of c = add binary32 (c .args .ph) (c .args .inc)
+
+small : (c : tie.Start) → Within 16777216 1 (x-of c)
+small c = sum-small (c .args .ph) (c .args .inc) (c .pre .0) (c .pre .1)
+
+holds : (b : Bool) → b ≡ true → T b
+holds b e = subst T (sym e) tt
+
+returns : tie.Need-returns
+unfolding ofBits
+returns c =
+    let s = c .before in
+    sym (fraction-below (x-of s) (add-fits binary32 (s .args .ph) (s .args .inc)) (small s) (holds _ (c .if1 .taken)))
+
+returns-2 : tie.Need-returns-2
+unfolding ofBits
+returns-2 c =
+    let s = c .before .before in
+    sym (fraction-over (x-of s) (small s) (not-lt (x-of s) one (small s .plain-is) tt (c .before .if1 .left)) (holds _ (c .if2 .taken)))
+
+whole-part-requires : tie.Need-whole-part-requires
+whole-part-requires c κs = search (needs, sum-small, phase-small)
+
+int-to-float-result : tie.Need-int-to-float-result
+int-to-float-result c = abs-in-float (pos (c .before .whole-part .result)) (c .before .whole-part .ensures .1)
+
+returns-3 : tie.Need-returns-3
+returns-3 c =
+    let s = c .before .before .before .before in
+    ap (λ (n : ℕ). sub binary32 (x-of s) (ofInt binary32 (pos n))) (c .before .whole-part .ensures .0)
+
+pub advance-spec : {M : Type 1} → statement M
+advance-spec =
+    tie.close (tie.spec returns returns-2 whole-part-requires int-to-float-result returns-3)

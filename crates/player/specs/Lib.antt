@@ -1,0 +1,9 @@
+pub mod F32
+pub mod Wave
+pub mod Phase
+pub mod Share
+pub mod Rng
+pub mod Rate
+pub mod Fade
+pub mod Filters
+pub mod Compensation

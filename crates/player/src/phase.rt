@@ -1,0 +1,28 @@
+// A phase gains a step and loses its whole part.
+ghost use mathlib.Core.Path.{_≡_};
+ghost use Prim.Native.Nat.{_≤_};
+ghost use Rattle.player.specs.Phase.{Phase, Step, advanceOf, partialFreq};
+use crate::whole::whole_part;
+
+// Most steps are small: the whole part is 0 or 1.
+pub fn advance(ph: f32, inc: f32) -> f32
+    requires { ⌜ Phase ph ⌝ ∗ ⌜ Step inc ⌝ }
+    ensures { λ r. ⌜ r ≡ advanceOf ph inc ⌝ }
+{
+    let x = ph + inc;
+    if x < 1.0 {
+        return x;
+    }
+    if x < 2.0 {
+        return x - 1.0;
+    }
+    x - (whole_part(x) as f32)
+}
+
+// The frequency of partial m, counted from 1.
+pub fn partial_freq(m: u32, f0: f32, stretch: f32) -> f32
+    requires { ⌜ m ≤ 32 ⌝ }
+    ensures { λ r. ⌜ r ≡ partialFreq m f0 stretch ⌝ }
+{
+    (m as f32) * f0 * stretch
+}
