@@ -7,3 +7,11 @@ pub mod Rate
 pub mod Fade
 pub mod Filters
 pub mod Compensation
+pub mod Lists
+pub mod Input
+pub mod Bracket
+pub mod Voice
+pub mod Sound
+pub mod Block
+pub mod Play
+pub mod Making

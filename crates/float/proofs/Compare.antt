@@ -1,0 +1,167 @@
+-- The order of finite floats, and what it says of their bounds. Assumes nothing.
+use mathlib.Core.Path.{_≡_, sym, subst}
+use mathlib.Core.Logic.{inl, inr}
+use Prim.Native.Nat.{ℕ, _+_, _*_, _≤_, _<_}
+use native.Mathlib.Nat.{le-trans, le-of-eq, le-of-lt, le-refl, lt-of-le-of-lt, lt-of-lt-of-le, mul-right-comm, mul-le-mul-right, mul-lt-mul-of-pos-right, lt-of-mul-lt-mul-right, eq-or-lt-of-le}
+use native.Mathlib.Omega.{arith}
+use mathlib.Core.Bool.{Bool, true, false, not, _&&_, _||_, Bool·beq}
+use lib.Dec.{T, ltb, eqb, eqb-refl, lt→ltb, nltb→le}
+use lib.Ieee.{Float, nan, inf, fin, up, down, lt, le, below, level}
+use lib.Ieee.Fits.{and-i, eq→eqb}
+use lib.Ieee.Scale.{finite}
+use lib.Ieee.Positive.{num, den, den-pos, positive, through, above, above-of-le}
+use Rattle.float.specs.Range.{plain, Within, Below, AtLeast}
+use Rattle.float.proofs.Within.{le→cross, lt→cross, cross→le}
+use Rattle.float.proofs.Subnormal.{positive-plain}
+
+-- ---- of two finite floats of either sign, one is at most the other
+or-left : (a b : Bool) → T a → T (a || b)
+or-left true b t = tt
+or-left false b t = absurd t
+
+or-right : (a b : Bool) → T b → T (a || b)
+or-right true b t = tt
+or-right false b t = t
+
+test-off : (b : Bool) → b ≡ false → T (not b)
+test-off true h = subst T h tt
+test-off false h = tt
+
+turn-up : (a b : ℕ) → b ≤ a → T (ltb b a || (eqb b a && true))
+turn-up a b h =
+    elim (eq-or-lt-of-le h) [
+      | inl e ↦ or-right (ltb b a) (eqb b a && true) (and-i (eqb b a) true (eq→eqb e) tt)
+      | inr l ↦ or-left (ltb b a) (eqb b a && true) (lt→ltb b a l)
+    ]
+
+turn-down : (a b : ℕ) → a ≤ b → T (ltb a b || (eqb b a && true))
+turn-down a b h =
+    elim (eq-or-lt-of-le h) [
+      | inl e ↦ or-right (ltb a b) (eqb b a && true) (and-i (eqb b a) true (eq→eqb (sym e)) tt)
+      | inr l ↦ or-left (ltb a b) (eqb b a && true) (lt→ltb a b l)
+    ]
+
+-- two sizes whose sum is 0 are 0
+both-zero : (a b : ℕ) → b + a ≤ 0 → T (eqb b a && eqb b 0)
+both-zero a b h = and-i (eqb b a) (eqb b 0) (eq→eqb (same a b h)) (eq→eqb (none a b h))
+  where
+    same : (a b : ℕ) → b + a ≤ 0 → b ≡ a
+    same a b h = omega arith
+
+    none : (a b : ℕ) → b + a ≤ 0 → b ≡ 0
+    none a b h = omega arith
+
+turn : (s : Bool) (a : ℕ) (t : Bool) (b : ℕ) → below s a t b ≡ false → T (below t b s a || level t b s a)
+turn false a false b h = turn-up a b (nltb→le a b (test-off (ltb a b) h))
+turn true a true b h = turn-down a b (nltb→le b a (test-off (ltb b a) h))
+turn false a true b h = go (ltb 0 (b + a)) (nltb→le 0 (b + a))
+  where
+    go : (c : Bool) → (T (not c) → b + a ≤ 0) → T (c || (eqb b a && eqb b 0))
+    go true f = tt
+    go false f = both-zero a b (f tt)
+turn true a false b h = both-zero a b (le-trans (le-of-eq (swap a b)) (nltb→le 0 (a + b) (test-off (ltb 0 (a + b)) h)))
+  where
+    swap : (a b : ℕ) → b + a ≡ a + b
+    swap a b = omega arith
+
+-- LAW: x not below y, both finite, is y at most x
+pub finite-not-lt : (x y : Float) → T (finite x) → T (finite y) → lt x y ≡ false → T (le y x)
+unfolding lt le
+finite-not-lt nan y p q h = absurd p
+finite-not-lt (inf s) y p q h = absurd p
+finite-not-lt (fin s m e) nan p q h = absurd q
+finite-not-lt (fin s m e) (inf t) p q h = absurd q
+finite-not-lt (fin s m e) (fin t n d) p q h = turn s (m * up e * down d) t (n * up d * down e) h
+
+same-sign : (s : Bool) (c : Bool) → T (Bool·beq s s || c)
+same-sign true c = tt
+same-sign false c = tt
+
+pub finite-le-self : (x : Float) → T (finite x) → T (le x x)
+unfolding le
+finite-le-self nan p = absurd p
+finite-le-self (inf s) p = absurd p
+finite-le-self (fin s m e) p =
+    let a = m * up e * down e in
+    or-right (below s a s a) (level s a s a) (and-i (eqb a a) (Bool·beq s s || eqb a 0) (eqb-refl a) (same-sign s (eqb a 0)))
+
+pub lt-le : (x y : Float) → T (lt x y) → T (le x y)
+unfolding le
+lt-le x y h = or-left (lt x y) _ h
+
+-- ---- with no sign: the order goes through, and moves bounds
+pub le-self : (x : Float) → T (plain x) → T (le x x)
+le-self x p = cross→le x x p p (le-refl (num x * den x))
+
+pub le-within : (a c : ℕ) (x y : Float) → T (plain x) → T (le x y) → Within a c y → Within a c x
+le-within a c x y p h w = record { plain-is = p; upper = through (num x) (num y) a (den x) (den y) c (den-pos y) (le→cross x y p (w .plain-is) h) (w .upper) }
+
+-- a bound that is a float's own value is the order
+pub within-le : (x y : Float) → T (plain y) → Within (num y) (den y) x → T (le x y)
+within-le x y q w = cross→le x y (w .plain-is) q (w .upper)
+
+pub le-upto : (x y : Float) → T (plain x) → T (plain y) → T (le x y) → Within (num y) (den y) x
+le-upto x y p q h = record { plain-is = p; upper = le→cross x y p q h }
+
+pub le-through : (x y z : Float) → T (plain x) → T (plain y) → T (plain z) → T (le x y) → T (le y z) → T (le x z)
+le-through x y z p q r h k = within-le x z r (le-within (num z) (den z) x y p h (le-upto y z q r k))
+
+pub at-least-le : (x y : Float) → T (plain y) → AtLeast (num y) (den y) x → T (le y x)
+at-least-le x y q w = cross→le y x q (w .plain-is) (w .lower)
+
+pub le-at-least : (x y : Float) → T (plain x) → T (plain y) → T (le y x) → AtLeast (num y) (den y) x
+le-at-least x y p q h = record { plain-is = p; lower = le→cross y x q p h }
+
+-- what is at least a positive float has no sign
+finite-above : (x : Float) → T (finite x) → T (above x) → T (plain x)
+finite-above nan f a = absurd f
+finite-above (inf s) f a = absurd f
+finite-above (fin true m e) f a = absurd a
+finite-above (fin false m e) f a = tt
+
+pub over-positive : (x y : Float) → T (finite x) → T (positive y) → T (le y x) → AtLeast (num y) (den y) x
+over-positive x y f p h = le-at-least x y (finite-above x f (above-of-le y x p h)) (positive-plain y p) h
+
+-- what is above a float with no sign has none
+pub over-plain : (x y : Float) → T (finite x) → T (plain y) → T (lt y x) → AtLeast (num y) (den y) x
+unfolding lt
+over-plain x y f p h = record { plain-is = unsigned x y f p h; lower = le-of-lt (lt→cross y x p (unsigned x y f p h) h) }
+  where
+    unsigned : (x y : Float) → T (finite x) → T (plain y) → T (lt y x) → T (plain x)
+    unsigned nan y f p h = absurd f
+    unsigned (inf s) y f p h = absurd f
+    unsigned (fin false m e) y f p h = tt
+    unsigned (fin true m e) nan f p h = absurd p
+    unsigned (fin true m e) (inf t) f p h = absurd p
+    unsigned (fin true m e) (fin true n d) f p h = absurd p
+    unsigned (fin true m e) (fin false n d) f p h = absurd h
+
+-- ---- wider bounds
+pub widen-within : (a c b d : ℕ) (x : Float) → 0 < c → Within a c x → a * d ≤ b * c → Within b d x
+widen-within a c b d x C w h = record { plain-is = w .plain-is; upper = through (num x) a b (den x) c d C (w .upper) h }
+
+pub below-within : (a c : ℕ) (x : Float) → Below a c x → Within a c x
+below-within a c x w = record { plain-is = w .plain-is; upper = le-of-lt (w .strict) }
+
+pub within-below : (a c b d : ℕ) (x : Float) → 0 < c → Within a c x → a * d < b * c → Below b d x
+within-below a c b d x C w h = record { plain-is = w .plain-is; strict = through-lt (num x) a b (den x) c d (den-pos x) (w .upper) h }
+  where
+    through-lt : (x y z p q r : ℕ) → 0 < p → x * q ≤ y * p → y * r < z * q → x * r < z * p
+    through-lt x y z p q r P h k =
+        lt-of-mul-lt-mul-right q
+        (lt-of-le-of-lt (le-of-eq (mul-right-comm x r q))
+        (lt-of-le-of-lt (mul-le-mul-right r h)
+        (lt-of-le-of-lt (le-of-eq (mul-right-comm y p r))
+        (lt-of-lt-of-le (mul-lt-mul-of-pos-right k P) (le-of-eq (mul-right-comm z q p))))))
+
+pub widen-below : (a c b d : ℕ) (x : Float) → 0 < c → 0 < d → Below a c x → a * d ≤ b * c → Below b d x
+widen-below a c b d x C D w h = record {
+  plain-is = w .plain-is;
+  strict = lt-of-mul-lt-mul-right c (lt-of-lt-of-le (lt-of-le-of-lt (le-of-eq (mul-right-comm (num x) d c)) (mul-lt-mul-of-pos-right (w .strict) D)) (chain (den x)));
+}
+  where
+    chain : (n : ℕ) → a * n * d ≤ b * n * c
+    chain n = subst (λ (l : ℕ). l ≤ b * n * c) (mul-right-comm a d n) (subst (λ (r : ℕ). a * d * n ≤ r) (mul-right-comm b c n) (mul-le-mul-right n h))
+
+pub widen-at-least : (a c b d : ℕ) (x : Float) → 0 < c → AtLeast a c x → b * c ≤ a * d → AtLeast b d x
+widen-at-least a c b d x C w h = record { plain-is = w .plain-is; lower = through b a (num x) d c (den x) C h (w .lower) }

@@ -1,0 +1,7 @@
+pub mod Range
+pub mod Fraction
+pub mod Lerp
+pub mod Order
+pub mod Root
+pub mod Sqrt
+pub mod Nearest

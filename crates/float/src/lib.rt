@@ -1,0 +1,14 @@
+// Floats: the operations on `f32` that the project needs beside the operators. Each is defined for every float.
+mod bits;
+mod interpolate;
+mod isqrt;
+mod maximum;
+mod minimum;
+mod root;
+
+pub use bits::from_bits;
+pub use bits::is_finite;
+pub use interpolate::lerp;
+pub use maximum::max;
+pub use minimum::min;
+pub use root::sqrt;

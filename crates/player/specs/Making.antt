@@ -1,0 +1,283 @@
+-- Making a voice: what a table's entries become, and questions 8 to 12. (1 to 7 are the table's.)
+use Prim.Native.Nat.{ℕ, zero, suc, _+_, _*_, _/_, _%_, max, min}
+use mathlib.Core.List.{List, [], _∷_, _++_, map}
+use mathlib.Core.Bool.{Bool, true, false, _&&_, _||_}
+use mathlib.Core.Option.{Option, some, none}
+use lib.ListN.{length, getD, replicate}
+use lib.Dec.{leb, ltb, eqb}
+use lib.Ieee.{Float, binary32, ofBits, lt, ne}
+use lib.Ieee.Scale.{finite}
+use Rattle.wire.specs.Parse.{Refusal, refusal, Parsed, ok, refused, pick}
+use Rattle.table.specs.declared.desk.Kind.{Kind}
+use Rattle.table.specs.Table.{PitchEntry, CoeffTable, mPartials, hasChannel, coefficientAt, metadataValue}
+use Rattle.table.specs.Decode.{decode, entriesOf}
+use Rattle.table.specs.Desk.{bandCount}
+use Rattle.player.specs.F32.{nearest}
+use Rattle.player.specs.Lists.{upTo, padded}
+use Rattle.player.specs.Filters.{noiseBand, centerOf}
+use Rattle.player.specs.Compensation.{noisePowerGain, compensationOf}
+use Rattle.player.specs.Voice.{pitchOk, stretchOk, rateOk, firstState}
+use Rattle.player.specs.Play.{accepted}
+use Rattle.player.specs.declared.filters.BiquadCoeffs.{BiquadCoeffs}
+use Rattle.player.specs.declared.voice.Voice.{Voice}
+
+-- a table's 32 bits as a float
+abbrev pub f32 : ℕ → Float
+f32 b = ofBits binary32 b
+
+-- ---- the entries of a voice
+-- a single voice of channel c keeps the entries that have channel c; a blend keeps all
+abbrev pub keeps : Kind → PitchEntry → Bool
+keeps (Kind.Single c) e = hasChannel e c
+keeps Kind.Blend e = true
+
+-- an entry put among entries that ascend by pitch, after those of equal pitch
+unfoldable pub insert : PitchEntry → List PitchEntry → List PitchEntry
+insert e [] = e ∷ []
+insert e (x ∷ xs) = pick (lt (f32 (e .f0Hz)) (f32 (x .f0Hz))) (e ∷ x ∷ xs) (x ∷ insert e xs)
+
+-- the entries kept, sorted by pitch, equal pitches in table order; `before` are those already put
+unfoldable pub gathered : Kind → List PitchEntry → List PitchEntry → List PitchEntry
+gathered k before [] = before
+gathered k before (e ∷ es) = gathered k (pick (keeps k e) (insert e before) before) es
+
+abbrev pub voiceEntries : Kind → List PitchEntry → List PitchEntry
+voiceEntries k es = gathered k [] es
+
+-- ---- coefficients: one that an entry lacks counts 0
+abbrev pub partialCoeff : PitchEntry → ℕ → ℕ → Float
+partialCoeff e c i = pick (ltb i (mPartials e)) (f32 (coefficientAt e c i)) (nearest 0 1)
+
+abbrev pub noiseCoeff : PitchEntry → ℕ → ℕ → Float
+noiseCoeff e c b = pick (ltb b (e .jNoise)) (f32 (coefficientAt e c (mPartials e + b))) (nearest 0 1)
+
+abbrev pub isNonzero : Float → Bool
+isNonzero x = ne x (nearest 0 1)
+
+-- ---- counts
+-- the largest channel count
+unfoldable pub mostChannels : List PitchEntry → ℕ
+mostChannels [] = 0
+mostChannels (e ∷ es) = max (e .kChannels) (mostChannels es)
+
+-- the channels that a voice sounds: one of a single voice; of a blend all, at most 4
+abbrev pub channelCount : Kind → List PitchEntry → ℕ
+channelCount (Kind.Single c) es = 1
+channelCount Kind.Blend es = min (mostChannels es) 4
+
+-- one more than the highest of the first n partials that is not 0 in channel c; 0 where there is none
+unfoldable pub reach : PitchEntry → ℕ → ℕ → ℕ
+reach e c zero = 0
+reach e c (suc n) = pick (isNonzero (partialCoeff e c n)) (suc n) (reach e c n)
+
+-- the highest reach in the first n channels
+unfoldable pub reachIn : PitchEntry → ℕ → ℕ
+reachIn e zero = 0
+reachIn e (suc n) = max (reachIn e n) (reach e n (mPartials e))
+
+-- the phases that an entry needs: all its partials in a single voice that keeps it; in a blend of n channels, as far as they reach
+abbrev pub phasesFor : Kind → ℕ → PitchEntry → ℕ
+phasesFor (Kind.Single c) n e = pick (hasChannel e c) (mPartials e) 0
+phasesFor Kind.Blend n e = reachIn e n
+
+unfoldable pub phaseCount : Kind → ℕ → List PitchEntry → ℕ
+phaseCount k n [] = 0
+phaseCount k n (e ∷ es) = max (phasesFor k n e) (phaseCount k n es)
+
+-- ---- live bands
+-- whether band b is not 0 in one of the first n channels of an entry, and in one of the entries
+unfoldable pub liveIn : PitchEntry → ℕ → ℕ → Bool
+liveIn e b zero = false
+liveIn e b (suc n) = liveIn e b n || isNonzero (noiseCoeff e n b)
+
+unfoldable pub liveAmong : List PitchEntry → ℕ → ℕ → Bool
+liveAmong [] n b = false
+liveAmong (e ∷ es) n b = liveIn e b n || liveAmong es n b
+
+-- all bands of a single voice are live
+abbrev pub isLive : Kind → List PitchEntry → ℕ → Bool
+isLive (Kind.Single c) es b = true
+isLive Kind.Blend es b = liveAmong es (channelCount Kind.Blend es) b
+
+-- the live ones of the first n bands, ascending
+unfoldable pub liveBands : Kind → List PitchEntry → ℕ → List ℕ
+liveBands k es zero = []
+liveBands k es (suc b) = liveBands k es b ++ pick (isLive k es b) (b ∷ []) []
+
+-- ---- gains: "mainlobe_gain" and "noise_gain" of the metadata, else 1
+abbrev pub mainlobeKey : List ℕ
+mainlobeKey = 109 ∷ 97 ∷ 105 ∷ 110 ∷ 108 ∷ 111 ∷ 98 ∷ 101 ∷ 95 ∷ 103 ∷ 97 ∷ 105 ∷ 110 ∷ []
+
+abbrev pub noiseGainKey : List ℕ
+noiseGainKey = 110 ∷ 111 ∷ 105 ∷ 115 ∷ 101 ∷ 95 ∷ 103 ∷ 97 ∷ 105 ∷ 110 ∷ []
+
+abbrev pub gainOr1 : Option ℕ → Float
+gainOr1 (some v) = f32 v
+gainOr1 none = nearest 1 1
+
+abbrev pub gainOf : List ℕ → PitchEntry → Float
+gainOf key e = gainOr1 (metadataValue key (e .metadata))
+
+-- ---- the fresh voice
+-- slot q of an entry holds the single voice's channel, or channel q of a blend of n channels
+abbrev pub slotChannel : Kind → ℕ → ℕ → Option ℕ
+slotChannel (Kind.Single c) n q = pick (eqb q 0) (some c) none
+slotChannel Kind.Blend n q = pick (ltb q n) (some q) none
+
+abbrev pub inSlot : (ℕ → Float) → Option ℕ → Float
+inSlot f (some c) = f c
+inSlot f none = nearest 0 1
+
+abbrev pub nth : List PitchEntry → ℕ → Option PitchEntry
+nth [] i = none
+nth (e ∷ es) zero = some e
+nth (e ∷ es) (suc i) = nth es i
+
+abbrev pub ofEntry : (PitchEntry → Float) → Option PitchEntry → Float
+ofEntry f (some e) = f e
+ofEntry f none = nearest 0 1
+
+-- what stands at a place of the flat arrays: entry × 128 + slot × 32 + partial, and entry × 64 + slot × 16 + band
+unfoldable pub partialPlace : Kind → ℕ → List PitchEntry → ℕ → Float
+partialPlace k n vs x = ofEntry (λ e. inSlot (λ c. partialCoeff e c (x % 32)) (slotChannel k n (x / 32 % 4))) (nth vs (x / 128))
+
+unfoldable pub noisePlace : Kind → ℕ → List PitchEntry → ℕ → Float
+noisePlace k n vs x = ofEntry (λ e. inSlot (λ c. noiseCoeff e c (x % 16)) (slotChannel k n (x / 16 % 4))) (nth vs (x / 64))
+
+abbrev pub zeroCoeffs : BiquadCoeffs
+zeroCoeffs = record { b0 = nearest 0 1; b1 = nearest 0 1; b2 = nearest 0 1; a1 = nearest 0 1; a2 = nearest 0 1 }
+
+-- a band's compensation from its centre, as `init` works it out
+abbrev pub bandCompensation : Float → Float → Float
+bandCompensation raw rate = compensationOf (noisePowerGain (centerOf raw rate) (nearest 1 1) rate (noiseBand raw rate) .power)
+
+abbrev pub kindNumber : Kind → ℕ
+kindNumber (Kind.Single c) = 0
+kindNumber Kind.Blend = 1
+
+abbrev pub kindChannel : Kind → ℕ
+kindChannel (Kind.Single c) = c
+kindChannel Kind.Blend = 0
+
+unfoldable pub freshVoice : Kind → List PitchEntry → Float → List Float → Voice
+freshVoice k es rate centres =
+    let vs = voiceEntries k es in
+    let n = channelCount k es in
+    let j = bandCount k es in
+    record {
+      blend = kindNumber k;
+      channel = kindChannel k;
+      count = length vs;
+      k = n;
+      m = phaseCount k n es;
+      j = j;
+      «live_count» = length (liveBands k es j);
+      live = padded 16 0 (liveBands k es j);
+      «sample_rate» = rate;
+      «f0_hz» = padded 16 (nearest 0 1) (map (λ e. f32 (e .f0Hz)) vs);
+      stretch = padded 16 (nearest 0 1) (map (λ e. f32 (e .stretch)) vs);
+      «mainlobe_gain» = padded 16 (nearest 0 1) (map (gainOf mainlobeKey) vs);
+      «noise_gain» = padded 16 (nearest 0 1) (map (gainOf noiseGainKey) vs);
+      partials = upTo (partialPlace k n vs) 2048;
+      noise = upTo (noisePlace k n vs) 1024;
+      bands = padded 16 zeroCoeffs (map (λ c. noiseBand c rate) centres);
+      compensation = padded 16 (nearest 0 1) (map (λ c. bandCompensation c rate) centres);
+      state = firstState;
+    }
+
+-- a refused making makes no voice: the blank one, all zero, with no entries
+unfoldable pub blankVoice : Voice
+blankVoice = record {
+  blend = 0;
+  channel = 0;
+  count = 0;
+  k = 0;
+  m = 0;
+  j = 0;
+  «live_count» = 0;
+  live = replicate 16 0;
+  «sample_rate» = nearest 0 1;
+  «f0_hz» = replicate 16 (nearest 0 1);
+  stretch = replicate 16 (nearest 0 1);
+  «mainlobe_gain» = replicate 16 (nearest 0 1);
+  «noise_gain» = replicate 16 (nearest 0 1);
+  partials = replicate 2048 (nearest 0 1);
+  noise = replicate 1024 (nearest 0 1);
+  bands = replicate 16 zeroCoeffs;
+  compensation = replicate 16 (nearest 0 1);
+  state = record { phases = replicate 32 (nearest 0 1); memories = replicate 16 (record { z1 = nearest 0 1; z2 = nearest 0 1 }); rng = record { state = 0 } };
+}
+
+-- ---- questions 8 to 12
+-- all of a list pass a test
+unfoldable pub all : {A : Type 0} → (A → Bool) → List A → Bool
+all f [] = true
+all f (a ∷ l) = f a && all f l
+
+unfoldable pub any : {A : Type 0} → (A → Bool) → List A → Bool
+any f [] = false
+any f (a ∷ l) = f a || any f l
+
+-- 8: at most 16 entries, M 32, j 16 in each?
+abbrev pub sizesOk : PitchEntry → Bool
+sizesOk e = leb (mPartials e) 32 && leb (e .jNoise) 16
+
+unfoldable pub limitsOk : List PitchEntry → Bool
+limitsOk es = leb (length es) 16 && all sizesOk es
+
+-- 9: pitch, stretch, every coefficient, and both gains where present
+abbrev pub presentFinite : Option ℕ → Bool
+presentFinite (some v) = finite (f32 v)
+presentFinite none = true
+
+unfoldable pub valuesOk : PitchEntry → Bool
+valuesOk e =
+    pitchOk (f32 (e .f0Hz))
+    && (stretchOk (f32 (e .stretch))
+    && (all (λ b. finite (f32 b)) (e .coefficients)
+    && (presentFinite (metadataValue mainlobeKey (e .metadata)) && presentFinite (metadataValue noiseGainKey (e .metadata)))))
+
+-- with the first such index; `rest` follows where there is none
+unfoldable pub askValues : ℕ → List PitchEntry → Refusal → Refusal
+askValues i [] rest = rest
+askValues i (e ∷ es) rest = pick (valuesOk e) (askValues (i + 1) es rest) (refusal 9 i 0)
+
+-- 10: single: is the table empty, or has some entry channel c?
+abbrev pub channelFound : Kind → List PitchEntry → Bool
+channelFound (Kind.Single c) es = eqb (length es) 0 || any (λ e. hasChannel e c) es
+channelFound Kind.Blend es = true
+
+-- 12: are there exactly j centres, all finite?
+abbrev pub centresOk : ℕ → List Float → Bool
+centresOk j centres = eqb (length centres) j && all finite centres
+
+abbrev pub askMaking : Bool → ℕ → Refusal → Refusal
+askMaking true n rest = rest
+askMaking false n rest = refusal n 0 0
+
+-- the first question that is answered no; number 0 where all are answered yes
+unfoldable pub tableQuestion : Kind → List PitchEntry → Float → List Float → Refusal
+tableQuestion k es rate centres =
+    askMaking (limitsOk es) 8
+    (askValues 0 es
+    (askMaking (channelFound k es) 10
+    (askMaking (rateOk rate) 11
+    (askMaking (centresOk (bandCount k es) centres) 12
+    (refusal 0 0 0)))))
+
+abbrev pub questionOf : Kind → Parsed CoeffTable → Float → List Float → Refusal
+questionOf k (ok t end) rate centres = tableQuestion k (t .entries) rate centres
+questionOf k (refused r) rate centres = r
+
+unfoldable pub makeQuestion : Kind → List ℕ → Float → List Float → Refusal
+makeQuestion k image rate centres = questionOf k (decode image) rate centres
+
+-- a making's answer: the refusal (number 0 for none) and the voice
+pub record Made : Type 0 where
+  pub refusal : Refusal
+  pub voice : Voice
+
+unfoldable pub makeOf : Kind → List ℕ → Float → List Float → Made
+makeOf k image rate centres =
+    let q = makeQuestion k image rate centres in
+    record { refusal = q; voice = accepted (q .number) (freshVoice k (entriesOf (decode image)) rate centres) blankVoice }
