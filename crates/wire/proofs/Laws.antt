@@ -11,10 +11,10 @@ use lib.Seq.{drop-cons}
 use lib.Dec.{leb, eqb}
 use borrow.Author.Tests.{le-leb, lt-leb, ne-eqb}
 use Rattle.wire.specs.declared.utf8.Rest.{Rest}
-use Rattle.wire.specs.Parse.{Parsed, ok, refused, pick}
+use Rattle.wire.specs.Parse.{ok, refused, pick}
 use Rattle.wire.specs.Utf8.{Octets, Next, follow, bad, chars, lead, octet, onto, octets, utf8}
 use Rattle.wire.specs.Utf8State.{restOf, ranges}
-use Rattle.wire.specs.Cursor.{Place, place, part, stringOf, unexpectedEof, badUtf8}
+use Rattle.wire.specs.Cursor.{place, part, stringOf, badUtf8}
 
 -- whether n bytes are there, by the tests that the code makes
 pub room : (at n l : ℕ) → at ≤ l → n ≤ l - at → leb (at + n) l ≡ true

@@ -2,3 +2,5 @@ pub mod Laws
 pub mod Found
 pub mod Apart
 pub mod Many
+pub mod Held
+pub mod Method

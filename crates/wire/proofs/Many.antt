@@ -5,7 +5,7 @@ use mathlib.Core.List.{List, [], _∷_}
 use mathlib.Core.Bool.{Bool, true, false}
 use native.Mathlib.Omega.{arith}
 use lib.ListN.{length}
-use Rattle.wire.specs.Parse.{Refusal, Parsed, Parser, ok, refused, asked, then, many, standing, onward}
+use Rattle.wire.specs.Parse.{Refusal, Parsed, Parser, ok, refused, asked, then, many, standing}
 
 -- a loop from 0 starts at the whole
 pub whole : (n : ℕ) → n - 0 ≡ n

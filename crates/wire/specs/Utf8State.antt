@@ -3,7 +3,7 @@ use Prim.Native.Nat.{ℕ, zero, suc}
 use mathlib.Core.List.{List, [], _∷_}
 use Rattle.wire.specs.declared.utf8.Follow.{Follow}
 use Rattle.wire.specs.declared.utf8.Rest.{Rest}
-use Rattle.wire.specs.Utf8.{Octets, range, tail, Next, follow, bad}
+use Rattle.wire.specs.Utf8.{Octets, range, Next, follow, bad}
 
 -- n octets: the first from `low` to `high`, the others UTF8-tail
 unfoldable pub restOf : ℕ → ℕ → ℕ → List Octets

@@ -55,7 +55,10 @@ fn le32_at(s: &[u8], at: usize) -> u32
     requires { ⌜ at + 4 ≤ length (now s) ⌝ }
     ensures { λ r. ⌜ r ≡ le32 (now (s .entry)) at ⌝ }
 {
-    wide32(s[at]) + 256 * wide32(s[at + 1]) + 65536 * wide32(s[at + 2]) + 16777216 * wide32(s[at + 3])
+    wide32(s[at])
+        + 256 * wide32(s[at + 1])
+        + 65536 * wide32(s[at + 2])
+        + 16777216 * wide32(s[at + 3])
 }
 
 impl Cursor {
