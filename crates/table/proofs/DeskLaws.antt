@@ -1,6 +1,6 @@
 -- Laws of the desk's values over the entries. Assumes nothing.
 use Prim.Native.Nat.{ℕ, _+_, _-_, _<_, max}
-use mathlib.Core.Path.{_≡_, refl, ap, sym, _∙_}
+use mathlib.Core.Path.{_≡_, ap, sym, _∙_}
 use mathlib.Core.List.{List, [], _∷_}
 use native.Mathlib.Omega.{arith}
 use Rattle.wire.specs.Parse.{Refusal, ok, refused, standing}

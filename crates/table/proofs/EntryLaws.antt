@@ -2,16 +2,16 @@
 use Prim.Native.Nat.{ℕ, zero, suc, _+_, _*_, _^_, _≤_, _<_}
 use mathlib.Core.Path.{_≡_, refl, ap, sym, _∙_}
 use mathlib.Core.List.{List, [], _∷_}
-use mathlib.Core.Bool.{Bool, true, false}
+use mathlib.Core.Bool.{true, false}
 use native.Mathlib.Omega.{arith}
-use native.Mathlib.Nat.{zero-mul, mul-comm, le-mul-of-pos-right, mul-le-mul, lt-of-le-of-lt}
-use lib.ListN.{length, getD}
-use lib.Dec.{eqb, ltb, lit<, eqb·zero-suc, eqb·suc-zero, eqb·suc-suc}
+use native.Mathlib.Nat.{zero-mul, mul-comm, le-mul-of-pos-right, mul-le-mul}
+use lib.ListN.{getD}
+use lib.Dec.{eqb, eqb·zero-suc, eqb·suc-zero, eqb·suc-suc}
 use borrow.Author.Tests.{ne-eqb, lt-ltb, le-ltb}
-use Rattle.wire.specs.Parse.{ok, refused, pick}
+use Rattle.wire.specs.Parse.{ok}
 use Rattle.wire.specs.Cursor.{u32}
 use Rattle.table.specs.declared.entry.EntryView.{EntryView}
-use Rattle.table.specs.Table.{PitchEntry, coefficientAt, width}
+use Rattle.table.specs.Table.{coefficientAt, width}
 use Rattle.table.specs.Image.{counted, pairs, entry}
 use Rattle.table.specs.View.{wordList, pairList, entryAt}
 use Rattle.table.proofs.WordLaws.{length-words, word-past}

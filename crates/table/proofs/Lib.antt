@@ -1,8 +1,15 @@
 pub mod BytesLaws
 pub mod WordLaws
 pub mod MetadataLaws
+pub mod SizeLaws
 pub mod EntryLaws
 pub mod SpanLaws
 pub mod ReadLaws
 pub mod DeskLaws
+pub mod LookupLaws
+pub mod Spelled
+pub mod Rewritten
+pub mod Local
+pub mod RoundTrip
 pub mod Apart
+pub mod Bench

@@ -1,13 +1,12 @@
 -- Laws of the pairs of an entry, for the loops over them. Assumes nothing.
-use Prim.Native.Nat.{ℕ, _+_, _-_, _≤_, _<_}
+use Prim.Native.Nat.{ℕ, _+_, _-_, _<_}
 use mathlib.Core.Path.{_≡_, refl, ap, sym, _∙_}
 use mathlib.Core.List.{List, [], _∷_}
-use mathlib.Core.Bool.{Bool, true, false}
-use mathlib.Core.Option.{Option, some, none}
+use mathlib.Core.Bool.{true, false}
+use mathlib.Core.Option.{some}
 use native.Mathlib.Omega.{arith}
-use lib.ListN.{length}
 use Rattle.wire.specs.Parse.{Refusal, Parsed, ok, refused, then, many, standing}
-use Rattle.wire.proofs.Many.{many-go, many-stand, many-length, stand-go}
+use Rattle.wire.proofs.Many.{many-go, many-stand, stand-go}
 use Rattle.table.specs.Table.{Pair, same, metadataValue}
 use Rattle.table.specs.Image.{pair, pairs}
 use Rattle.table.specs.View.{pairList}

@@ -1,21 +1,20 @@
 -- Laws of a whole image: its answer, and what an accepted one holds. Assumes nothing.
-use Prim.Native.Nat.{ℕ, _+_, _≤_, _<_}
+use Prim.Native.Nat.{ℕ, _≤_, _<_}
 use mathlib.Core.Path.{_≡_, refl, ap, sym, _∙_}
 use mathlib.Core.List.{List, []}
-use mathlib.Core.Bool.{Bool, true, false}
 use native.Mathlib.Omega.{arith}
 use native.Mathlib.Nat.{zero-add}
 use lib.ListN.{length}
 use lib.Dec.{leb}
 use borrow.Author.Tests.{le-leb, lt-leb}
-use Rattle.wire.specs.Parse.{Refusal, refusal, Parsed, ok, refused, asked, then, many}
+use Rattle.wire.specs.Parse.{Refusal, refusal, Parsed, ok, refused, asked, then}
 use Rattle.wire.proofs.Many.{many-stand, went, asked-ok}
 use Rattle.table.specs.declared.span.Baseline.{Baseline}
 use Rattle.table.specs.Table.{CoeffTable, PitchEntry}
 use Rattle.table.specs.Image.{Header, header, entry, entries}
 use Rattle.table.specs.Span.{Verdict, agreed, broken, consistent, ruled}
 use Rattle.table.specs.Baseline.{verdictFrom, concluded, outcome}
-use Rattle.table.specs.Decode.{decode, entriesOf}
+use Rattle.table.specs.Decode.{decode}
 use Rattle.table.specs.View.{entryList}
 use Rattle.table.specs.Answer.{counts}
 

@@ -14,7 +14,7 @@ use Rattle.table.specs.declared.span.Span.{Span}
 use Rattle.table.specs.declared.span.Baseline.{Baseline}
 use Rattle.table.specs.Table.{PitchEntry}
 use Rattle.table.specs.Image.{entry}
-use Rattle.table.specs.Span.{spanOf, floatEq, Verdict, agreed, broken, inconsistent, beside, agree, start, consistentFrom}
+use Rattle.table.specs.Span.{spanOf, floatEq, inconsistent, agree}
 use Rattle.table.specs.Baseline.{judged, verdictFrom, concluded, outcome}
 
 true-false : false ≡ true → ⊥

@@ -1,12 +1,12 @@
 -- Laws of 32-bit numbers that stand one after the other, and of a count with its numbers. Assumes nothing.
 use Prim.Native.Nat.{ℕ, zero, suc, _+_, _-_, _*_, _≤_, _<_}
-use mathlib.Core.Path.{_≡_, refl, ap, sym, _∙_}
+use mathlib.Core.Path.{_≡_, refl, ap, _∙_}
 use mathlib.Core.List.{List, [], _∷_}
 use native.Mathlib.Omega.{arith}
 use native.Mathlib.Decide.{decLe}
 use lib.ListN.{length, getD, List·getD-eq-default}
 use Rattle.wire.specs.declared.cursor.Cursor.{Cursor}
-use Rattle.wire.specs.Parse.{Refusal, Parsed, ok, refused, then, many}
+use Rattle.wire.specs.Parse.{Parsed, ok, refused, many}
 use Rattle.wire.specs.Cursor.{le32, u32, takeAt, unexpectedEof}
 use Rattle.wire.proofs.Found.{u32-got, u32-short, u32-is, take-is, take-short}
 use Rattle.wire.proofs.Apart.{cursor}

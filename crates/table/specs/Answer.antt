@@ -3,7 +3,6 @@ use Prim.Native.Nat.{ℕ, _+_, _*_}
 use mathlib.Core.List.{List}
 use mathlib.Core.Option.{Option, some, none}
 use lib.ListN.{length}
-use Rattle.wire.specs.declared.cursor.Cursor.{Cursor}
 use Rattle.wire.specs.Parse.{Refusal, refusal, Parsed, ok, refused}
 use Rattle.wire.specs.Cursor.{part}
 use Rattle.table.specs.declared.error.CoeffTableCodecError.{CoeffTableCodecError}

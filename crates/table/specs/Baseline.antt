@@ -1,9 +1,9 @@
 -- Question 7 in one pass over the entries: what the pass holds after each. Cited by private functions only.
 use Prim.Native.Nat.{ℕ, _+_}
 use mathlib.Core.List.{List, [], _∷_}
-use mathlib.Core.Bool.{Bool, true, false, _&&_}
+use mathlib.Core.Bool.{_&&_}
 use lib.ListN.{length}
-use Rattle.wire.specs.Parse.{Refusal, refusal, Parsed, ok, refused, pick}
+use Rattle.wire.specs.Parse.{Parsed, ok, refused, pick}
 use Rattle.table.specs.declared.span.Span.{Span}
 use Rattle.table.specs.declared.span.Baseline.{Baseline}
 use Rattle.table.specs.Table.{PitchEntry}

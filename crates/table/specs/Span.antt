@@ -1,7 +1,7 @@
 -- Question 7: has each entry both or neither of `noise_band_min_hz` and `noise_band_max_hz`, equal as floats to the first entry's?
 use Prim.Native.Nat.{ℕ, _+_}
 use mathlib.Core.List.{List, [], _∷_}
-use mathlib.Core.Bool.{Bool, true, false, _&&_}
+use mathlib.Core.Bool.{Bool, true, _&&_}
 use mathlib.Core.Option.{Option, some, none}
 use lib.Ieee.{eq, ofBits, binary32}
 use Rattle.wire.specs.Parse.{Refusal, refusal, Parsed, ok, refused, Parser, pick}

@@ -1,4 +1,4 @@
--- An entry where it stands in an image: which entry a view is of, and where the parts of an entry stand.
+-- An entry where it stands in an image: which entry a view is of, and the view of an entry.
 use Prim.Native.Nat.{ℕ, zero, suc, _+_, _*_}
 use mathlib.Core.Path.{_≡_}
 use mathlib.Core.List.{List, [], _∷_}
@@ -7,7 +7,8 @@ use Rattle.wire.specs.Parse.{standing}
 use Rattle.wire.specs.Cursor.{le32}
 use Rattle.table.specs.declared.entry.EntryView.{EntryView}
 use Rattle.table.specs.declared.entry.EntryRead.{EntryRead}
-use Rattle.table.specs.Table.{Pair, PitchEntry}
+use Rattle.table.specs.Table.{Pair, PitchEntry, mPartials}
+use Rattle.table.specs.Size.{entrySize}
 use Rattle.table.specs.Image.{pair, entry}
 
 -- the n 32-bit numbers that stand at a position
@@ -34,13 +35,23 @@ entryAt s v = record {
   metadata = pairList (v .pairs) s (v .«pairs_at»);
 }
 
--- where the parts of an entry that starts at a position stand
-pub record Placed (at : ℕ) (v : EntryView) : Type 0 where
-  pub partials : v .«partials_at» ≡ at + 12
-  pub coefficients : v .«coefficients_at» ≡ at + 24 + 4 * v .«m_partials»
-  pub pairs : v .«pairs_at» ≡ at + 28 + 4 * v .«m_partials» + 4 * v .coefficients
+-- the view of an entry that starts at a position: its numbers, where its parts stand, and where it ends
+abbrev pub viewOf : ℕ → PitchEntry → EntryView
+viewOf at e = record {
+  «f0_hz» = e .f0Hz;
+  stretch = e .stretch;
+  «m_partials» = mPartials e;
+  «k_channels» = e .kChannels;
+  «j_noise» = e .jNoise;
+  coefficients = length (e .coefficients);
+  pairs = length (e .metadata);
+  «partials_at» = at + 12;
+  «coefficients_at» = at + 24 + 4 * mPartials e;
+  «pairs_at» = at + 28 + 4 * mPartials e + 4 * length (e .coefficients);
+  end = at + entrySize e;
+}
 
--- of an entry that could not be read there is nothing to place
-abbrev pub PlacedRead : ℕ → EntryRead → Type 0
-PlacedRead at (EntryRead.Entry v) = Placed at v
-PlacedRead at (EntryRead.Refused e) = Unit
+-- a view read at a position is that of its entry there; of an entry that could not be read there is nothing to place
+abbrev pub PlacedRead : List ℕ → ℕ → EntryRead → Type 0
+PlacedRead s at (EntryRead.Entry v) = v ≡ viewOf at (entryAt s v)
+PlacedRead s at (EntryRead.Refused e) = Unit

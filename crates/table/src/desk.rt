@@ -6,16 +6,16 @@ ghost use Rattle.table.specs.Decode.{decode};
 ghost use Rattle.table.specs.View.{entryAt, entryList};
 ghost use Rattle.table.specs.Answer.{foundBits};
 ghost use Rattle.table.specs.Desk.{bandsOf, bandCount, orElse, firstValue, deskOf, deskOutcome, deskAnswer};
-use crate::entry::entry_at;
-use crate::entry::metadata_value;
 use crate::entry::EntryRead;
 use crate::entry::EntryView;
+use crate::entry::entry_at;
+use crate::entry::metadata_value;
 use crate::error::CoeffTableCodecError;
-use crate::header::header_at;
 use crate::header::HeaderRead;
+use crate::header::header_at;
 use crate::metadata::Found;
-use crate::read::from_bytes;
 use crate::read::Reading;
+use crate::read::from_bytes;
 use wire::cursor::Cursor;
 
 // A voice's kind: one channel of the table, or the blend of its channels.
@@ -48,13 +48,7 @@ fn bands_of(kind: Kind, v: EntryView) -> u32
     ensures { λ r. ⌜ ((s : List ℕ) → r ≡ bandsOf kind (entryAt s v)) ⌝ }
 {
     match kind {
-        Kind::Single(channel) => {
-            if channel < v.k_channels {
-                v.j_noise
-            } else {
-                0
-            }
-        }
+        Kind::Single(channel) => { if channel < v.k_channels { v.j_noise } else { 0 } }
         Kind::Blend => v.j_noise,
     }
 }

@@ -10,10 +10,10 @@ ghost use Rattle.table.specs.View.{entryAt, PlacedRead};
 ghost use Rattle.table.specs.Answer.{foundBits, entryParsed, countedParsed, placedCount};
 use crate::bytes::word_or;
 use crate::error::CoeffTableCodecError;
-use crate::metadata::find;
-use crate::metadata::skip_pairs;
 use crate::metadata::Found;
 use crate::metadata::Skipped;
+use crate::metadata::find;
+use crate::metadata::skip_pairs;
 use wire::cursor::Cursor;
 use wire::cursor::Taken;
 use wire::cursor::U32Read;
@@ -76,7 +76,7 @@ fn is_well_formed(k: u32, w: u64, n: u32) -> bool
 // The entry with an index, at a cursor.
 pub fn entry_at(s: &[u8], c: Cursor, index: usize) -> EntryRead
     ensures means { λ r. ⌜ entryParsed (now (s .entry)) r ≡ entry index (now (s .entry)) (c .at) ⌝ }
-    ensures placed { λ r. ⌜ PlacedRead (c .at) r ⌝ }
+    ensures placed { λ r. ⌜ PlacedRead (now (s .entry)) (c .at) r ⌝ }
 {
     let U32Read::Value(f0_hz, c1) = c.u32(s) else {
         return EntryRead::Refused(CoeffTableCodecError::UnexpectedEof);

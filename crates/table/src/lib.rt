@@ -1,10 +1,14 @@
-// Coefficient tables: the image that a planner's tool writes, read with questions 1 to 7 and looked into.
+// Coefficient tables: the image that a planner's tool writes, read with questions 1 to 7, looked into, and rewritten.
 mod bytes;
-mod header;
-mod span;
 pub mod desk;
 pub mod entry;
 pub mod error;
+mod header;
+pub mod lookup;
 mod metadata;
+mod span;
+
 pub use metadata::Found;
+
 pub mod read;
+pub mod rewrite;

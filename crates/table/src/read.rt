@@ -7,14 +7,14 @@ ghost use Rattle.table.specs.Answer.{readingParsed, counts};
 ghost use Rattle.table.specs.Baseline.{verdictFrom, concluded, outcome};
 ghost use mathlib.Core.List.{[]};
 use crate::bytes::part_of;
-use crate::entry::entry_at;
 use crate::entry::EntryRead;
+use crate::entry::entry_at;
 use crate::error::CoeffTableCodecError;
-use crate::header::header_at;
 use crate::header::HeaderRead;
+use crate::header::header_at;
+use crate::span::Baseline;
 use crate::span::judge;
 use crate::span::span_of;
-use crate::span::Baseline;
 use wire::cursor::Cursor;
 
 // The entry count and the end of the last entry, or why the image is refused.
@@ -27,7 +27,10 @@ fn conclude(j: Baseline, n: usize, end: usize) -> Reading
     ensures { λ r. ⌜ readingParsed r ≡ concluded (verdictFrom j n []) n end ⌝ }
 {
     match j {
-        Baseline::Broken(f, b) => Reading::Refused(CoeffTableCodecError::InconsistentNoiseBandSpan(f, b)),
+        Baseline::Broken(f, b) => Reading::Refused(CoeffTableCodecError::InconsistentNoiseBandSpan(
+            f,
+            b,
+        )),
         Baseline::Start => Reading::Accepted(n, end),
         Baseline::Neither => Reading::Accepted(n, end),
         Baseline::Both(_, _) => Reading::Accepted(n, end),

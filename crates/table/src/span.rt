@@ -5,8 +5,8 @@ ghost use Rattle.table.specs.Baseline.{judged};
 ghost use mathlib.Core.Bool.{_&&_};
 ghost use Rattle.table.specs.View.{entryAt};
 ghost use Rattle.table.specs.Answer.{foundBits};
-use crate::entry::metadata_value;
 use crate::entry::EntryView;
+use crate::entry::metadata_value;
 use crate::metadata::Found;
 
 // The two keys of the span in one entry, with the values' bits.

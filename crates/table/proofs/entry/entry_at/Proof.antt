@@ -3,11 +3,13 @@ use Prim.Native.Nat.{_+_, _*_}
 use native.Mathlib.Omega.{arith}
 use Rattle.wire.specs.Cursor.{u32Parsed}
 use Rattle.wire.proofs.Found.{u32-is}
-use Rattle.table.specs.Image.{entry}
+use Rattle.wire.proofs.Many.{many-length}
+use Rattle.table.specs.Image.{pair, entry}
 use Rattle.table.specs.Answer.{countedParsed, skippedParsed}
 use Rattle.table.proofs.WordLaws.{length-words, count-runs}
 use Rattle.table.proofs.MetadataLaws.{pairs-are, pairs-arent}
 use Rattle.table.proofs.EntryLaws.{entry-ok}
+use Rattle.table.proofs.SizeLaws.{entry-end, view-is}
 use borrow.Author.Needs.{needs}
 use Rattle.table.proofs.entry.entry_at.Statement.{statement}
 use Rattle.table.proofs.entry.entry_at.Tie as tie
@@ -292,7 +294,9 @@ returns-9 c =
     let p₂ : b11 .n .given .0 .1 .0 ≡ at + 24 + 4 * m = omega arith in
     let p₃ : b7 .q .given .0 .1 .0 .at ≡ at + 28 + 4 * m + 4 * n = omega arith in
     let t = sym (b1 .is-well-formed .ensures) ∙ c .if1 .taken in
-    (sym (entry-ok (b35 .args .index) s at _ _ m _ _ _ n _ _ _ _ _ _ _ _ _ _ e₁ e₂ e₃ e₄ e₅ e₆ e₇ e₈ t), record { partials = p₁; coefficients = p₂; pairs = p₃ })
+    let l = many-length (λ i. pair) s (b7 .q .given .0 .0) 0 (b7 .q .given .0 .1 .0 .at) _ _ e₈ in
+    let o = entry-ok (b35 .args .index) s at _ _ m _ _ _ n _ _ _ _ _ _ _ _ _ _ e₁ e₂ e₃ e₄ e₅ e₆ e₇ e₈ t in
+    (sym o, view-is s at _ p₁ p₂ p₃ l (entry-end (b35 .args .index) s at _ _ o))
 
 -- src/entry.rt:77:1
 returns-10 : tie.Need-returns-10
