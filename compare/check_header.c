@@ -1,0 +1,59 @@
+/* include/sounder.h against the library: sizes and offsets, a read, a refusal, a rewriting. */
+#include "../include/sounder.h"
+#include <stdio.h>
+#include <string.h>
+
+_Static_assert(sizeof(struct sounder_answer) == 24, "answer");
+_Static_assert(offsetof(struct sounder_answer, first) == 8, "answer");
+_Static_assert(sizeof(struct sounder_place) == 16, "place");
+_Static_assert(sizeof(struct sounder_desk_answer) == 40, "desk answer");
+_Static_assert(offsetof(struct sounder_desk_answer, bands) == 24, "desk answer");
+
+static int failures;
+
+static void expect(int yes, const char *what)
+{
+    if (!yes) {
+        printf("check_header: %s\n", what);
+        failures++;
+    }
+}
+
+static int is(struct sounder_answer a, uint32_t number, size_t first, size_t second)
+{
+    return a.number == number && a.first == first && a.second == second;
+}
+
+/* version 0, the name "ab", one entry of pitch 220 and stretch 1: no partials, one channel of 3 bands, metadata x = 1 */
+static const uint8_t image[] = {'M', 'S', 'C', 'T', 0, 0, 2, 0, 0, 0, 'a', 'b', 1, 0, 0, 0, 0, 0, 0x5C, 0x43, 0, 0, 0x80, 0x3F, 0, 0, 0, 0, 1, 0, 0, 0, 3, 0, 0, 0,
+                                3, 0, 0, 0, 0, 0, 0, 0, 0, 0, 0, 0, 0, 0, 0, 0, 1, 0, 0, 0, 1, 0, 0, 0, 'x', 0, 0, 0x80, 0x3F, 0xEE};
+
+int main(void)
+{
+    const size_t n = sizeof image, end = n - 1;
+    uint8_t target[sizeof image], whole[sizeof image];
+
+    expect(is(sounder_from_bytes(image, n), 0, 1, end), "a read");
+    expect(is(sounder_from_bytes(image, 20), 2, 0, 0), "a refusal");
+    struct sounder_place p = sounder_name(image, n);
+    expect(p.start == 10 && p.len == 2 && memcmp(image + p.start, "ab", 2) == 0, "the name");
+    struct sounder_desk_answer d = sounder_desk(0, 0, image, n);
+    expect(is(d.answer, 0, 0, 0) && d.bands == 3 && d.min_hz == 0x42A00000 && d.max_hz == 0x463B8000, "the desk, single");
+    expect(sounder_desk(0, 1, image, n).bands == 0, "the desk, a channel that no entry has");
+    expect(sounder_desk(1, 9, image, n).bands == 3, "the desk, blend");
+    memset(target, 0x55, n);
+    expect(is(sounder_to_bytes(image, n, target, end - 1), 17, 0, 0), "a target that is too short");
+    for (size_t i = 0; i < n; i++) {
+        expect(target[i] == 0x55, "a refusal changes nothing");
+    }
+    expect(is(sounder_to_bytes(image, n, target, n), 0, 1, end), "a rewriting");
+    memcpy(whole, image, n);
+    whole[4] = 1;
+    whole[end] = 0x55;
+    expect(memcmp(target, whole, n) == 0, "the rewritten image");
+    if (failures) {
+        return 1;
+    }
+    printf("check_header: ok\n");
+    return 0;
+}

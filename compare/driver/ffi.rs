@@ -1,0 +1,178 @@
+// The boundary of the library under comparison, as include/sounder.h declares it.
+#[repr(C)]
+#[derive(Clone, Copy, Debug, PartialEq)]
+pub struct Answer {
+    pub number: u32,
+    pub first: usize,
+    pub second: usize,
+}
+
+#[repr(C)]
+#[derive(Clone, Copy, Debug, PartialEq)]
+pub struct Place {
+    pub start: usize,
+    pub len: usize,
+}
+
+#[repr(C)]
+#[derive(Clone, Copy, Debug, PartialEq)]
+pub struct DeskAnswer {
+    pub answer: Answer,
+    pub bands: u32,
+    pub min_hz: u32,
+    pub max_hz: u32,
+}
+
+mod c {
+    use super::*;
+    unsafe extern "C" {
+        pub fn sounder_from_bytes(image: *const u8, len: usize) -> Answer;
+        pub fn sounder_name(image: *const u8, len: usize) -> Place;
+        pub fn sounder_desk(kind: u32, channel: u32, image: *const u8, len: usize) -> DeskAnswer;
+        pub fn sounder_to_bytes(image: *const u8, len: usize, target: *mut u8, target_len: usize) -> Answer;
+    }
+}
+
+pub fn from_bytes(image: &[u8]) -> Answer {
+    unsafe { c::sounder_from_bytes(image.as_ptr(), image.len()) }
+}
+
+pub fn name(image: &[u8]) -> Place {
+    unsafe { c::sounder_name(image.as_ptr(), image.len()) }
+}
+
+pub fn desk(kind: u32, channel: u32, image: &[u8]) -> DeskAnswer {
+    unsafe { c::sounder_desk(kind, channel, image.as_ptr(), image.len()) }
+}
+
+pub fn to_bytes(image: &[u8], target: &mut [u8]) -> Answer {
+    unsafe { c::sounder_to_bytes(image.as_ptr(), image.len(), target.as_mut_ptr(), target.len()) }
+}
+
+// ---- voices
+#[cfg(playing)]
+pub use voices::*;
+
+#[cfg(playing)]
+mod voices {
+    use super::Answer;
+
+    #[repr(C)]
+    #[derive(Clone, Copy, Debug)]
+    pub struct State {
+        pub phases: [f32; 32],
+        pub memories: [[f32; 2]; 16],
+        pub noise: u32,
+    }
+
+    // No padding stands between its fields.
+    #[repr(C)]
+    #[derive(Clone, Copy)]
+    pub struct Voice {
+        pub blend: u32,
+        pub channel: u32,
+        pub count: usize,
+        pub k: usize,
+        pub m: usize,
+        pub j: usize,
+        pub live_count: usize,
+        pub live: [usize; 16],
+        pub sample_rate: f32,
+        pub f0_hz: [f32; 16],
+        pub stretch: [f32; 16],
+        pub mainlobe_gain: [f32; 16],
+        pub noise_gain: [f32; 16],
+        pub partials: [f32; 2048],
+        pub noise: [f32; 1024],
+        pub bands: [[f32; 5]; 16],
+        pub compensation: [f32; 16],
+        pub state: State,
+    }
+
+    const _: () = assert!(size_of::<Voice>() == 13368);
+
+    #[repr(C)]
+    #[derive(Clone, Copy)]
+    pub struct MadeAnswer {
+        pub answer: Answer,
+        pub voice: Voice,
+    }
+
+    #[repr(C)]
+    #[derive(Clone, Copy)]
+    pub struct PlayedAnswer {
+        pub number: u32,
+        pub voice: Voice,
+    }
+
+    #[repr(C)]
+    #[derive(Clone, Copy, Debug)]
+    pub struct NoisePower {
+        pub power: f32,
+        pub n: u32,
+    }
+
+    #[repr(C)]
+    #[derive(Clone, Copy)]
+    pub struct Coeffs(pub [f32; 5]);
+
+    mod c {
+        use super::*;
+        unsafe extern "C" {
+            pub fn sounder_make(kind: u32, channel: u32, image: *const u8, len: usize, rate: f32, centres: *const f32, n: usize) -> MadeAnswer;
+            #[rustfmt::skip]
+            pub fn sounder_play(
+                voice: Voice,
+                samples: usize,
+                freq_channels: usize,
+                freq: *const f32,
+                freq_len: usize,
+                g0_channels: usize,
+                g0: *const f32,
+                g0_len: usize,
+                g1_channels: usize,
+                g1: *const f32,
+                g1_len: usize,
+                g2_channels: usize,
+                g2: *const f32,
+                g2_len: usize,
+                g3_channels: usize,
+                g3: *const f32,
+                g3_len: usize,
+                channels: usize,
+                out: *mut f32,
+                out_len: usize,
+            ) -> PlayedAnswer;
+            pub fn sounder_reset(voice: Voice) -> PlayedAnswer;
+            pub fn sounder_reseed(voice: Voice, seed: u32) -> PlayedAnswer;
+            pub fn sounder_noise_power_gain(freq: f32, q: f32, rate: f32, coeffs: Coeffs) -> NoisePower;
+        }
+    }
+
+    pub fn make(kind: u32, channel: u32, image: &[u8], rate: f32, centres: &[f32]) -> MadeAnswer {
+        unsafe { c::sounder_make(kind, channel, image.as_ptr(), image.len(), rate, centres.as_ptr(), centres.len()) }
+    }
+
+    // An input is its channels (0: unconnected) and its slice.
+    #[rustfmt::skip]
+    pub fn play(v: &Voice, samples: usize, freq: (usize, &[f32]), g: [(usize, &[f32]); 4], channels: usize, out: &mut [f32]) -> PlayedAnswer {
+        unsafe {
+            c::sounder_play(
+                *v, samples, freq.0, freq.1.as_ptr(), freq.1.len(), g[0].0, g[0].1.as_ptr(), g[0].1.len(), g[1].0, g[1].1.as_ptr(), g[1].1.len(),
+                g[2].0, g[2].1.as_ptr(), g[2].1.len(), g[3].0, g[3].1.as_ptr(), g[3].1.len(), channels, out.as_mut_ptr(), out.len(),
+            )
+        }
+    }
+
+    pub fn reset(v: &Voice) -> PlayedAnswer {
+        unsafe { c::sounder_reset(*v) }
+    }
+
+    pub fn reseed(v: &Voice, seed: u32) -> PlayedAnswer {
+        unsafe { c::sounder_reseed(*v, seed) }
+    }
+
+    pub fn noise_power_gain(freq: f32, q: f32, rate: f32, coeffs: [f32; 5]) -> NoisePower {
+        unsafe { c::sounder_noise_power_gain(freq, q, rate, Coeffs(coeffs)) }
+    }
+}

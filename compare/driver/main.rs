@@ -1,0 +1,50 @@
+// The comparison with the original: compare/run builds and starts it.
+mod ffi;
+mod heap;
+mod image;
+mod list;
+#[cfg(playing)]
+mod playing;
+mod race;
+mod rand;
+mod reading;
+mod tally;
+
+use tally::Tally;
+
+#[global_allocator]
+static HEAP: heap::Lazy = heap::Lazy;
+
+fn main() {
+    let a: Vec<String> = std::env::args().collect();
+    let value = |name: &str| a.iter().position(|x| x == name).and_then(|i| a.get(i + 1)).cloned();
+    let number = |name: &str, other: u64| value(name).map_or(other, |v| v.parse().unwrap_or_else(|_| panic!("{name} {v}: not a number")));
+    let (cases, seed) = (number("--cases", 300_000), number("--seed", 1));
+    if a.iter().any(|x| x == "--race") {
+        race::run();
+        return;
+    }
+    if let Some(path) = value("--out") {
+        list::write(number("--list", 300) as usize, seed, &path);
+        #[cfg(playing)]
+        playing::write_list(number("--list", 300) as usize, seed, &format!("{path}.playing"));
+        return;
+    }
+    let mut reading = Tally::default();
+    if !a.iter().any(|x| x == "--only-playing") {
+        reading::run(cases as usize, seed, &mut reading);
+        reading.print("reading");
+    }
+    #[allow(unused_mut)]
+    let mut playing = Tally::default();
+    #[cfg(playing)]
+    if !a.iter().any(|x| x == "--only-reading") {
+        playing::run(number("--voices", 3000) as usize, seed, &mut playing);
+        playing.print("playing");
+    }
+    let differences = reading.differences + playing.differences;
+    println!("compare: seed {seed}, {} cases, {} samples, {differences} differences", reading.cases + playing.cases, playing.samples);
+    if differences > 0 {
+        std::process::exit(1)
+    }
+}

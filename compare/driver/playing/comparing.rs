@@ -1,0 +1,237 @@
+// A case on both sides, compared.
+use super::*;
+
+// the same bits, or both NaN
+pub fn alike(a: f32, b: f32) -> bool {
+    a.to_bits() == b.to_bits() || a.is_nan() && b.is_nan()
+}
+
+pub fn floats(what: &str, ours: &[f32], theirs: &[f32]) -> Result<(), String> {
+    if ours.len() != theirs.len() {
+        return Err(format!("{what}: ours are {}, the original's {}", ours.len(), theirs.len()));
+    }
+    match (0..ours.len()).find(|&i| !alike(ours[i], theirs[i])) {
+        None => Ok(()),
+        Some(i) => Err(format!(
+            "{what} at {i}: ours {:?} ({:08X}), the original's {:?} ({:08X})",
+            ours[i],
+            ours[i].to_bits(),
+            theirs[i],
+            theirs[i].to_bits()
+        )),
+    }
+}
+
+pub fn numbers<T: PartialEq + std::fmt::Debug>(what: &str, ours: T, theirs: T) -> Result<(), String> {
+    if ours == theirs { Ok(()) } else { Err(format!("{what}: ours {ours:?}, the original's {theirs:?}")) }
+}
+
+pub fn bytes(v: &Voice) -> &[u8; 13368] {
+    // a Voice has no padding
+    unsafe { &*(v as *const Voice as *const [u8; 13368]) }
+}
+
+pub const STATE: usize = 13368 - 260;
+
+pub fn padded(l: impl Iterator<Item = f32>, n: usize) -> Vec<f32> {
+    let mut v: Vec<f32> = l.collect();
+    v.resize(n, 0.0);
+    v
+}
+
+// The fresh voice against what the original holds.
+pub fn fresh(v: &Voice, i: &Inside, kind: u32, channel: u32, rate: f32) -> Result<(), String> {
+    numbers("kind", (v.blend, v.channel), if kind == 0 { (0, channel) } else { (1, 0) })?;
+    numbers("counts", (v.count, v.k, v.m, v.j), (i.entries.len(), i.k, i.m, i.j))?;
+    numbers("live bands", &v.live[..v.live_count.min(16)], &i.live[..])?;
+    numbers("unused live bands", v.live[i.live.len()..].iter().sum::<usize>(), 0)?;
+    floats("rate", &[v.sample_rate], &[rate])?;
+    for (what, ours, at) in
+        [("pitches", &v.f0_hz, 0), ("stretches", &v.stretch, 1), ("mainlobe gains", &v.mainlobe_gain, 2), ("noise gains", &v.noise_gain, 3)]
+    {
+        floats(what, ours, &padded(i.entries.iter().map(|e| e.0[at]), 16))?;
+    }
+    // the original's blend leaves out partials that are 0 or -0 in every channel: ours keeps their sign
+    let (mut partials, mut noise) = (vec![0f32; 2048], vec![0f32; 1024]);
+    for (n, e) in i.entries.iter().enumerate() {
+        for (c, row) in e.1.iter().enumerate() {
+            partials[n * 128 + c * 32..][..row.len()].copy_from_slice(row);
+        }
+        for (c, row) in e.2.iter().enumerate() {
+            noise[n * 64 + c * 16..][..row.len()].copy_from_slice(row);
+        }
+    }
+    let ours: Vec<f32> = v.partials.iter().enumerate().map(|(x, &p)| if kind != 0 && x % 32 >= i.m && p == 0.0 { 0.0 } else { p }).collect();
+    floats("partials", &ours, &partials)?;
+    floats("noise", &v.noise, &noise)?;
+    floats("band coefficients", &v.bands.concat(), &padded(i.bands.concat().into_iter(), 80))?;
+    floats("compensations", &v.compensation, &padded(i.compensation.iter().copied(), 16))
+}
+
+// The running state against the original's; what is not in use must be as it was.
+pub fn running(v: &State, before: &State, r: &Running) -> Result<(), String> {
+    let (m, j) = (r.phases.len(), r.memories.len());
+    floats("phases", &v.phases[..m], &r.phases)?;
+    floats("memories", &v.memories[..j].concat(), &r.memories.iter().flat_map(|z| [z.0, z.1]).collect::<Vec<_>>())?;
+    numbers("noise number", v.noise, r.noise)?;
+    let rest = |s: &State| {
+        (s.phases[m..].iter().map(|p| p.to_bits()).collect::<Vec<_>>(), s.memories[j..].iter().map(|z| z.map(f32::to_bits)).collect::<Vec<_>>())
+    };
+    numbers("unused phases and memories", rest(v), rest(before))
+}
+
+pub fn lent(i: &Input) -> (usize, &[f32]) {
+    (i.0, &i.1)
+}
+
+pub fn our_play(v: &Voice, p: &Play, out: &mut [f32]) -> ffi::PlayedAnswer {
+    ffi::play(v, p.samples, lent(&p.freq), std::array::from_fn(|g| lent(&p.gains[g])), p.channels, out)
+}
+
+// A voice that breaks a rule of document 01, or nearly does.
+pub fn broken(v: &Voice, which: usize) -> Voice {
+    let mut b = *v;
+    let next = |x: f32| f32::from_bits(x.to_bits() + 1);
+    match which {
+        0 => b.count = 17,
+        1 => b.m = 33,
+        2 => b.j = 17,
+        3 => b.k = 5,
+        4 => b.sample_rate = next(192000.0),
+        5 => b.sample_rate = f32::NAN,
+        6 => b.sample_rate = 7999.9995,
+        7 => b.state.phases[0] = 1.0,
+        8 => b.state.phases[v.m.max(1) - 1] = f32::NAN,
+        9 => b.state.phases[v.m.max(1) - 1] = -1e-45,
+        10 => b.f0_hz[v.count.max(1) - 1] = next(20000.0),
+        11 => b.f0_hz[0] = 0.0,
+        12 => b.f0_hz.swap(0, v.count.max(1) - 1),
+        13 => b.stretch[v.count.max(1) - 1] = next(4.0),
+        14 => b.stretch[0] = -1e-45,
+        15 => b.live[v.live_count.max(1) - 1] = v.j,
+        16 => b.live.swap(0, v.live_count.max(1) - 1),
+        17 => b.live_count = 17,
+        18 => b.count = usize::MAX,
+        19 => b.m = usize::MAX,
+        20 => b.live_count = usize::MAX,
+        21 => b.f0_hz[0] = f32::NAN,
+        22 => {
+            b.live_count = 2;
+            b.live[1] = b.live[0];
+        }
+        _ => b.sample_rate = f32::INFINITY,
+    }
+    b
+}
+
+pub const BREAKS: usize = 24;
+
+pub fn filling(n: usize) -> Vec<f32> {
+    (0..n).map(|i| f32::from_bits(0x40490000 + i as u32)).collect()
+}
+
+// A call that must be refused: the number, the voice as given, the output as it was.
+pub fn refusal(what: &str, number: u32, got: &ffi::PlayedAnswer, given: &Voice) -> Result<(), String> {
+    numbers(&format!("{what}'s number"), got.number, number)?;
+    if bytes(&got.voice) != bytes(given) {
+        return Err(format!("{what}, refused {number}, does not return the voice as given"));
+    }
+    Ok(())
+}
+
+pub fn check_call(v: &mut Voice, p: &mut Theirs, call: &Call, rate: f32, tally: &mut Tally) -> Result<(), String> {
+    tally.calls += 1;
+    let given = *v;
+    match call {
+        Call::Play(c) => {
+            let q = play_question(v, c);
+            tally.number(q);
+            let mut out = filling(c.out_len);
+            let got = our_play(v, c, &mut out);
+            if q != 0 {
+                tally.paper += 1;
+                floats("output of a refused play", &out, &filling(c.out_len))?;
+                return refusal("play", q, &got, v);
+            }
+            numbers("play's number", got.number, 0)?;
+            tally.samples += out.len() as u64;
+            floats("samples", &out, &their_play(p, c, rate))?;
+            *v = got.voice;
+        }
+        Call::Reset => {
+            let got = ffi::reset(v);
+            p.ugen().reset();
+            numbers("reset's number", got.number, 0)?;
+            *v = got.voice;
+        }
+        Call::Reseed(seed) => {
+            let got = ffi::reseed(v, *seed);
+            p.ugen().reseed_noise(*seed);
+            numbers("reseed's number", got.number, 0)?;
+            *v = got.voice;
+        }
+        Call::Touch(r) => {
+            v.state.phases[..r.phases.len()].copy_from_slice(&r.phases);
+            v.state.memories.iter_mut().zip(&r.memories).for_each(|(z, m)| *z = [m.0, m.1]);
+            v.state.noise = r.noise;
+            p.set_running(r);
+        }
+        Call::Broken(which, c) => {
+            let b = broken(v, *which);
+            if keeps_rules(&b) {
+                return Ok(());
+            }
+            tally.number(13);
+            tally.paper += 1;
+            let mut out = filling(c.out_len);
+            refusal("play of a broken voice", 13, &our_play(&b, c, &mut out), &b)?;
+            floats("output of a refused play", &out, &filling(c.out_len))?;
+            refusal("reset of a broken voice", 13, &ffi::reset(&b), &b)?;
+            return refusal("reseed of a broken voice", 13, &ffi::reseed(&b, 7), &b);
+        }
+    }
+    if bytes(v)[..STATE] != bytes(&given)[..STATE] {
+        return Err(format!("{call:?} changes more than the running state"));
+    }
+    // a reset zeroes the unused places too, which are 0 from the start; a reseed zeroes memories
+    running(&v.state, &given.state, &p.running())
+}
+
+pub fn check(c: &Case, tally: &mut Tally) -> Result<(), String> {
+    let image = c.table.bytes();
+    let answer = |a: (u32, usize, usize)| Answer { number: a.0, first: a.1, second: a.2 };
+    let got = ffi::make(c.kind, c.channel, &image, c.rate, &c.centres);
+    let read = expected_read(&image, tally);
+    let wanted = match &read {
+        Ok(t) => making_question(t, c.kind, c.channel, c.rate, &c.centres),
+        Err(e) => *e,
+    };
+    tally.number(wanted.0);
+    numbers("make", got.answer, answer(wanted))?;
+    if wanted.0 != 0 {
+        tally.paper += 1;
+        if let (Ok(t), 10) = (read, wanted.0) {
+            numbers("the original makes no voice of the channel", made(&Arc::new(t), c.kind, c.channel, c.rate, &c.centres).is_none(), true)?;
+        }
+        return numbers("bytes of a refused making's voice that are not 0", bytes(&got.voice).iter().filter(|b| **b != 0).count(), 0);
+    }
+    let t = Arc::new(read.unwrap());
+    let (mut p, rung) = made(&t, c.kind, c.channel, c.rate, &c.centres).ok_or("the original makes no voice of the channel")?;
+    let mut v = got.voice;
+    fresh(&v, &p.inside(), c.kind, c.channel, c.rate)?;
+    let zero = State { phases: [0.0; 32], memories: [[0.0; 2]; 16], noise: 0 };
+    running(&v.state, &zero, &p.running())?;
+    for (b, raw) in c.centres.iter().enumerate() {
+        let centre = raw.min(c.rate * 0.5 * 0.9).max(20.0);
+        let ours = ffi::noise_power_gain(centre, 1.0, c.rate, v.bands[b]);
+        numbers("ring count", ours.n as usize, rung[b])?;
+        floats("noise power", &[ours.power], &[shim::noise_power(centre, 1.0, c.rate, v.bands[b]).0])?;
+    }
+    if !keeps_rules(&v) {
+        return Err("a fresh voice breaks the voice rules".into());
+    }
+    for (i, call) in c.calls.iter().enumerate() {
+        check_call(&mut v, &mut p, call, c.rate, tally).map_err(|e| format!("call {i}: {e}"))?;
+    }
+    Ok(())
+}
