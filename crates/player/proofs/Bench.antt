@@ -1,13 +1,16 @@
--- Document 01's bench examples P7, P8 and P9, against the definitions.
+-- Document 01's bench examples P7 to P11, against the definitions.
 use mathlib.Core.Path.{_≡_, refl}
 use Prim.Native.Nat.{_^_}
+use mathlib.Core.List.{List, [], _∷_}
 use mathlib.Core.Bool.{false}
-use lib.Ieee.{round, add, sub, div, ofInt, toUnsigned}
+use lib.Ieee.{Float, round, add, sub, div, ofInt, toUnsigned, lt, eq, le}
 use lib.Ieee.Exact.{HasValue}
 use Rattle.player.specs.F32.{nearest}
 use Rattle.player.specs.Phase.{advanceOf}
 use Rattle.player.specs.Rng.{bipolarOf, newRng, nextBipolar}
 use Rattle.player.specs.Wave.{quarterOf}
+use Rattle.player.specs.Bracket.{notAbove, neighbours, bracketOf}
+use Rattle.player.specs.declared.bracket.Bracket.{Bracket}
 
 -- P7: T at 0, 1, 64, 128, 256
 pub record P7 : Type 0 where
@@ -34,3 +37,22 @@ pub record P9 : Type 0 where
 pub p9 : P9
 unfolding bipolarOf round div ofInt
 p9 = record { state = refl; value = (refl, refl) }
+
+-- P10: pitches 100, 200, 400: 100 gives entry 0; 200 gives 1 and 2, t = 0; 300 the same pair, t = 0.5; 400 entry 2
+abbrev pitches : List Float
+pitches = nearest 100 1 ∷ nearest 200 1 ∷ nearest 400 1 ∷ []
+
+pub record P10 : Type 0 where
+  pub at-100 : bracketOf pitches 3 (nearest 100 1) ≡ Bracket.One 0
+  pub at-200 : bracketOf pitches 3 (nearest 200 1) ≡ Bracket.Between 1 2 (nearest 0 1)
+  pub at-300 : bracketOf pitches 3 (nearest 300 1) ≡ Bracket.Between 1 2 (nearest 1 2)
+  pub at-400 : bracketOf pitches 3 (nearest 400 1) ≡ Bracket.One 2
+
+pub p10 : P10
+unfolding bracketOf notAbove neighbours round le lt eq add sub div
+p10 = record { at-100 = refl; at-200 = refl; at-300 = refl; at-400 = refl }
+
+-- P11: pitches 100, 200, 200, 400 at 200: entries 2 and 3
+pub p11 : bracketOf (nearest 100 1 ∷ nearest 200 1 ∷ nearest 200 1 ∷ nearest 400 1 ∷ []) 4 (nearest 200 1) ≡ Bracket.Between 2 3 (nearest 0 1)
+unfolding bracketOf notAbove neighbours round le lt eq add sub div
+p11 = refl

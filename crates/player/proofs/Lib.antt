@@ -7,6 +7,13 @@ pub mod SineLaws
 pub mod NoiseLaws
 pub mod PhaseLaws
 pub mod BandLaws
+pub mod BandAt
 pub mod Tests
 pub mod RingLaws
+pub mod Loops
+pub mod RangeLaws
+pub mod QuestionLaws
+pub mod BracketLaws
+pub mod SoundLaws
+pub mod MovedLaws
 pub mod Bench

@@ -14,4 +14,4 @@ pub mod Voice
 pub mod Sound
 pub mod Block
 pub mod Play
-pub mod Making
+pub mod Band

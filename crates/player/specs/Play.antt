@@ -10,8 +10,8 @@ use Rattle.player.specs.Rng.{newRng}
 use Rattle.player.specs.Voice.{keepsRules, withState, firstState, clearedMemories}
 use Rattle.player.specs.Block.{blockOut, blockEnd}
 use Rattle.player.specs.declared.input.Input.{Input}
-use Rattle.player.specs.declared.play.PlayAnswer.{PlayAnswer}
-use Rattle.player.specs.declared.play.Played.{Played}
+use Rattle.player.specs.declared.answer.PlayAnswer.{PlayAnswer}
+use Rattle.player.specs.declared.answer.Played.{Played}
 use Rattle.player.specs.declared.voice.State.{State}
 use Rattle.player.specs.declared.voice.Voice.{Voice}
 

@@ -1,7 +1,14 @@
 // The entries between which a frequency lies.
 ghost use mathlib.Core.Path.{_≡_};
+ghost use mathlib.Core.Bool.{true, false};
 ghost use Prim.Native.Nat.{_≤_};
-ghost use Rattle.player.specs.Bracket.{notAbove, bracketOf, sidesOf, SidesIn};
+ghost use lib.ListN.{getD};
+ghost use lib.Ieee.{nan, le};
+ghost use Rattle.float.specs.Range.{Within};
+ghost use Rattle.player.specs.Lists.{every};
+ghost use Rattle.player.specs.Share.{shareOf};
+ghost use Rattle.player.specs.Voice.{pitchOk};
+ghost use Rattle.player.specs.Bracket.{notAbove, bracketOf, sidesOf, SidesIn, between};
 
 // One entry by its index, or two neighbours with the share between them.
 pub enum Bracket {
@@ -31,10 +38,18 @@ fn not_above(f0_hz: &[f32; 16], n: usize, f0: f32) -> usize
     0
 }
 
+// The share of f0 between two pitches.
+fn share(lo: f32, f0: f32, hi: f32) -> f32
+    requires { ⌜ Within 20000 1 lo × Within 20000 1 f0 × Within 20000 1 hi × (le lo f0 ≡ true) × (le hi f0 ≡ false) ⌝ }
+    ensures { λ r. ⌜ (r ≡ shareOf lo f0 hi) × Within 1 1 r ⌝ }
+{
+    (f0 - lo) / (hi - lo)
+}
+
 pub fn bracket_at(f0_hz: &[f32; 16], count: usize, f0: f32) -> Bracket
-    requires { ⌜ (1 ≤ count) × (count ≤ 16) ⌝ }
+    requires { ⌜ (1 ≤ count) × (count ≤ 16) × (every (λ i. pitchOk (getD (now «f0_hz») i nan)) count ≡ true) × Within 20000 1 f0 ⌝ }
     ensures { λ r. ⌜ r ≡ bracketOf (now («f0_hz» .entry)) count f0 ⌝ }
-    ensures { λ r. ⌜ SidesIn count (sidesOf r) ⌝ }
+    ensures { λ r. ⌜ SidesIn count (sidesOf r) × Within 1 1 (sidesOf r .t) ⌝ }
 {
     if f0 <= f0_hz[0] {
         return Bracket::One(0);
@@ -48,7 +63,7 @@ pub fn bracket_at(f0_hz: &[f32; 16], count: usize, f0: f32) -> Bracket
         return Bracket::One(0);
     }
     let lo = k - 1;
-    let t = (f0 - f0_hz[lo]) / (f0_hz[k] - f0_hz[lo]);
+    let t = share(f0_hz[lo], f0, f0_hz[k]);
     Bracket::Between(lo, k, t)
 }
 
@@ -63,4 +78,23 @@ pub fn both_sides(b: Bracket) -> Sides
         },
         Bracket::Between(lo, hi, t) => Sides { lo, hi, t },
     }
+}
+
+// The sides of f0 among count pitches.
+pub fn sides_at(f0_hz: &[f32; 16], count: usize, f0: f32) -> Sides
+    requires { ⌜ (1 ≤ count) × (count ≤ 16) × (every (λ i. pitchOk (getD (now «f0_hz») i nan)) count ≡ true) × Within 20000 1 f0 ⌝ }
+    ensures { λ r. ⌜ r ≡ sidesOf (bracketOf (now («f0_hz» .entry)) count f0) ⌝ }
+    ensures { λ r. ⌜ SidesIn count r × Within 1 1 (r .t) ⌝ }
+{
+    both_sides(bracket_at(f0_hz, count, f0))
+}
+
+// A value between those of the two sides.
+pub fn value_between(l: &[f32; 16], s: Sides) -> f32
+    requires { ⌜ SidesIn 16 s ⌝ }
+    ensures { λ r. ⌜ r ≡ between (now (l .entry)) s ⌝ }
+{
+    let lo = s.lo;
+    let hi = s.hi;
+    float::lerp(l[lo], l[hi], s.t)
 }

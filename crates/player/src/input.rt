@@ -2,7 +2,7 @@
 ghost use mathlib.Core.Path.{_≡_};
 ghost use Prim.Native.Nat.{_<_, _≤_};
 ghost use lib.ListN.{length};
-ghost use Rattle.player.specs.Input.{inputAt, InputFits, inputOk, frequenciesOk, cleaned};
+ghost use Rattle.player.specs.Input.{inputAt, frequencyAt, gains, gainsAt, InputFits, inputOk, cleaned};
 
 // Unconnected, or as many channels of the block's length in the slice beside it.
 pub enum Input {
@@ -51,4 +51,38 @@ pub fn input_ok(input: Input, samples: usize, len: usize) -> bool
             }
         }
     }
+}
+
+// The frequency that output channel ch plays at sample i.
+pub fn frequency_at(freq: Input, s: &[f32], samples: usize, ch: usize, i: usize) -> f32
+    requires { ⌜ InputFits freq samples (length (now s)) ⌝ }
+    requires { ⌜ i < samples ⌝ }
+    ensures { λ r. ⌜ r ≡ cleaned (frequencyAt freq (now (s .entry)) samples ch i) ⌝ }
+{
+    clean(read_input(freq, s, samples, ch, i, 220.0))
+}
+
+// The four gains of output channel ch at sample i.
+pub fn gains_at(
+    g0: Input,
+    g0_s: &[f32],
+    g1: Input,
+    g1_s: &[f32],
+    g2: Input,
+    g2_s: &[f32],
+    g3: Input,
+    g3_s: &[f32],
+    samples: usize,
+    ch: usize,
+    i: usize,
+) -> [f32; 4]
+    requires { ⌜ (InputFits g0 samples (length (now «g0_s»))) × (InputFits g1 samples (length (now «g1_s»))) × (InputFits g2 samples (length (now «g2_s»))) × (InputFits g3 samples (length (now «g3_s»))) ⌝ }
+    requires { ⌜ i < samples ⌝ }
+    ensures { λ r. ⌜ r ≡ gainsAt (gains g0 (now («g0_s» .entry)) g1 (now («g1_s» .entry)) g2 (now («g2_s» .entry)) g3 (now («g3_s» .entry))) samples ch i ⌝ }
+{
+    let a = read_input(g0, g0_s, samples, ch, i, 1.0);
+    let b = read_input(g1, g1_s, samples, ch, i, 0.0);
+    let c = read_input(g2, g2_s, samples, ch, i, 0.0);
+    let d = read_input(g3, g3_s, samples, ch, i, 0.0);
+    [a, b, c, d]
 }

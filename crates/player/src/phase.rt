@@ -1,12 +1,14 @@
 // A phase gains a step and loses its whole part.
 ghost use mathlib.Core.Path.{_≡_};
+ghost use mathlib.Core.Bool.{true};
 ghost use Prim.Native.Nat.{_≤_};
-ghost use Rattle.player.specs.Phase.{Phase, Step, advanceOf, partialFreq};
+ghost use Rattle.player.specs.Phase.{Step, advanceOf, partialFreq};
+ghost use Rattle.player.specs.Voice.{phaseOk};
 use crate::whole::whole_part;
 
 // Most steps are small: the whole part is 0 or 1.
 pub fn advance(ph: f32, inc: f32) -> f32
-    requires { ⌜ Phase ph ⌝ ∗ ⌜ Step inc ⌝ }
+    requires { ⌜ phaseOk ph ≡ true ⌝ ∗ ⌜ Step inc ⌝ }
     ensures { λ r. ⌜ r ≡ advanceOf ph inc ⌝ }
 {
     let x = ph + inc;

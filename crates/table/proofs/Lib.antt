@@ -7,6 +7,7 @@ pub mod SpanLaws
 pub mod ReadLaws
 pub mod DeskLaws
 pub mod LookupLaws
+pub mod StartLaws
 pub mod Spelled
 pub mod Rewritten
 pub mod Local

@@ -6,6 +6,7 @@ pub mod Baseline
 pub mod Decode
 pub mod View
 pub mod Lookup
+pub mod Start
 pub mod Answer
 pub mod Desk
 pub mod Encode

@@ -12,3 +12,4 @@ pub use metadata::Found;
 
 pub mod read;
 pub mod rewrite;
+pub mod start;

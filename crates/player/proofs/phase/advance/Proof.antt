@@ -1,5 +1,4 @@
 -- `advance` meets its contract. A test gives an order of floats with the literal by its bit pattern, which `unfolding ofBits` computes.
-use borrow.Author.Needs.{needs}
 use mathlib.Core.Path.{_≡_, sym, ap, subst}
 use mathlib.Core.Bool.{Bool, true}
 use Prim.Native.Nat.{ℕ}
@@ -10,7 +9,7 @@ use lib.Ieee.Fits.{add-fits}
 use Rattle.float.specs.Range.{Within}
 use Rattle.float.proofs.Fraction.{fraction-below, fraction-over, not-lt, one}
 use Rattle.float.proofs.Ints.{abs-in-float}
-use Rattle.player.proofs.PhaseLaws.{sum-small, phase-small}
+use Rattle.player.proofs.RangeLaws.{sum-ok}
 use Rattle.player.proofs.phase.advance.Statement.{statement}
 use Rattle.player.proofs.phase.advance.Tie as tie
 
@@ -18,7 +17,7 @@ abbrev x-of : tie.Start → Float
 x-of c = add binary32 (c .args .ph) (c .args .inc)
 
 small : (c : tie.Start) → Within 16777216 1 (x-of c)
-small c = sum-small (c .args .ph) (c .args .inc) (c .pre .0) (c .pre .1)
+small c = sum-ok (c .args .ph) (c .args .inc) (c .pre .0) (c .pre .1)
 
 holds : (b : Bool) → b ≡ true → T b
 holds b e = subst T (sym e) tt
@@ -36,7 +35,7 @@ returns-2 c =
     sym (fraction-over (x-of s) (small s) (not-lt (x-of s) one (small s .plain-is) tt (c .before .if1 .left)) (holds _ (c .if2 .taken)))
 
 whole-part-requires : tie.Need-whole-part-requires
-whole-part-requires c κs = search (needs, sum-small, phase-small)
+whole-part-requires c κs = small (c .before .before)
 
 int-to-float-result : tie.Need-int-to-float-result
 int-to-float-result c = abs-in-float (pos (c .before .whole-part .result)) (c .before .whole-part .ensures .1)

@@ -12,14 +12,13 @@ use Rattle.table.specs.declared.desk.Kind.{Kind}
 use Rattle.table.specs.Table.{PitchEntry, CoeffTable, mPartials, hasChannel, coefficientAt, metadataValue}
 use Rattle.table.specs.Decode.{decode, entriesOf}
 use Rattle.table.specs.Desk.{bandCount}
 use Rattle.player.specs.F32.{nearest}
 use Rattle.player.specs.Lists.{upTo, padded}
-use Rattle.player.specs.Filters.{noiseBand, centerOf}
-use Rattle.player.specs.Compensation.{noisePowerGain, compensationOf}
+use Rattle.player.specs.Filters.{noiseBand}
+use Rattle.player.specs.Band.{zeroCoeffs, bandCompensation}
 use Rattle.player.specs.Voice.{pitchOk, stretchOk, rateOk, firstState}
 use Rattle.player.specs.Play.{accepted}
-use Rattle.player.specs.declared.filters.BiquadCoeffs.{BiquadCoeffs}
 use Rattle.player.specs.declared.voice.Voice.{Voice}
 
 -- a table's 32 bits as a float
 abbrev pub f32 : ℕ → Float
@@ -143,13 +142,6 @@ partialPlace k n vs x = ofEntry (λ e. inSlot (λ c. partialCoeff e c (x % 32)) 
 
 unfoldable pub noisePlace : Kind → ℕ → List PitchEntry → ℕ → Float
 noisePlace k n vs x = ofEntry (λ e. inSlot (λ c. noiseCoeff e c (x % 16)) (slotChannel k n (x / 16 % 4))) (nth vs (x / 64))
-
-abbrev pub zeroCoeffs : BiquadCoeffs
-zeroCoeffs = record { b0 = nearest 0 1; b1 = nearest 0 1; b2 = nearest 0 1; a1 = nearest 0 1; a2 = nearest 0 1 }
-
--- a band's compensation from its centre, as `init` works it out
-abbrev pub bandCompensation : Float → Float → Float
-bandCompensation raw rate = compensationOf (noisePowerGain (centerOf raw rate) (nearest 1 1) rate (noiseBand raw rate) .power)
 
 abbrev pub kindNumber : Kind → ℕ
 kindNumber (Kind.Single c) = 0

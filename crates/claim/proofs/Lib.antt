@@ -1,0 +1,7 @@
+pub mod Folds
+pub mod Sides
+pub mod Rules
+pub mod Front
+pub mod Bands
+pub mod Moves
+pub mod Theorem

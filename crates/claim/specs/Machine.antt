@@ -1,0 +1,108 @@
+-- The plain machine (document 01, module 6): phases, memories and the noise number, moved by frequencies, resets and seeds.
+-- It takes entries, rate and band coefficients from a making's arguments, never from a voice. Single and blend share it.
+use Prim.Native.Nat.{ℕ, zero, suc, _+_}
+use mathlib.Core.List.{List, [], _∷_, map}
+use mathlib.Core.Bool.{Bool, true, false, _||_}
+use lib.ListN.{length, replicate}
+use lib.Dec.{eqb}
+use lib.Ieee.{Float}
+use Rattle.wire.specs.Parse.{pick}
+use Rattle.table.specs.declared.desk.Kind.{Kind}
+use Rattle.table.specs.Table.{PitchEntry}
+use Rattle.table.specs.Decode.{decode, entriesOf}
+use Rattle.table.specs.Desk.{bandCount}
+use Rattle.player.specs.declared.filters.BiquadCoeffs.{BiquadCoeffs}
+use Rattle.player.specs.declared.filters.BiquadState.{BiquadState}
+use Rattle.player.specs.F32.{_⊗_, nearest}
+use Rattle.player.specs.Phase.{advanceOf, inverseOf, stepOf}
+use Rattle.player.specs.Rng.{stepped, bipolarOf, newRng, defaultSeed}
+use Rattle.player.specs.Filters.{noiseBand, cleared, tickOf}
+use Rattle.player.specs.Input.{cleaned}
+use Rattle.player.specs.Bracket.{bracketOf, sidesOf, between}
+use Rattle.player.specs.Sound.{unitVariance, noCoeffs}
+use Rattle.making.specs.Making.{f32, voiceEntries, channelCount, phaseCount, liveBands}
+
+-- what the machine takes from the making: the voice's entries by their pitches and stretches, the rate, how many phases, the bands, and which of them are live
+pub record Plain : Type 0 where
+  pub pitches : List Float
+  pub stretches : List Float
+  pub rate : Float
+  pub phases : ℕ
+  pub bands : List BiquadCoeffs
+  pub live : List ℕ
+
+abbrev pub plainFrom : Kind → List PitchEntry → Float → List Float → Plain
+plainFrom k es rate centres = record {
+  pitches = map (λ e. f32 (e .f0Hz)) (voiceEntries k es);
+  stretches = map (λ e. f32 (e .stretch)) (voiceEntries k es);
+  rate = rate;
+  phases = phaseCount k (channelCount k es) es;
+  bands = map (λ c. noiseBand c rate) centres;
+  live = liveBands k es (bandCount k es);
+}
+
+unfoldable pub plainOf : Kind → List ℕ → Float → List Float → Plain
+plainOf k image rate centres = plainFrom k (entriesOf (decode image)) rate centres
+
+-- exactly as many phases and memories as there are, and the noise number
+pub record Machine : Type 0 where
+  pub phases : List Float
+  pub memories : List BiquadState
+  pub noise : ℕ
+
+-- what the machine is fed
+pub data Event : Type 0 where
+  frequency : Float → Event
+  reset : Event
+  seed : ℕ → Event
+
+-- all 0, and the noise number of a seed
+abbrev pub startFrom : Plain → Machine
+startFrom x = record { phases = replicate (x .phases) (nearest 0 1); memories = replicate (length (x .bands)) cleared; noise = newRng defaultSeed .state }
+
+-- the phases of partials m, m + 1, ..: each gains its step and loses its whole part
+unfoldable pub gain : ℕ → Float → Float → Float → List Float → List Float
+gain m f0 stretch inv [] = []
+gain m f0 stretch inv (p ∷ ps) = advanceOf p (stepOf m f0 stretch inv) ∷ gain (m + 1) f0 stretch inv ps
+
+-- whether a number is in a list
+unfoldable pub isIn : ℕ → List ℕ → Bool
+isIn n [] = false
+isIn n (x ∷ l) = eqb n x || isIn n l
+
+-- the memories of bands b, b + 1, ..: the live ones tick
+unfoldable pub tick : ℕ → Float → List ℕ → List BiquadCoeffs → List BiquadState → List BiquadState
+tick b x live cs [] = []
+tick b x live [] (s ∷ ss) = pick (isIn b live) (tickOf s x noCoeffs .state) s ∷ tick (b + 1) x live [] ss
+tick b x live (c ∷ cs) (s ∷ ss) = pick (isIn b live) (tickOf s x c .state) s ∷ tick (b + 1) x live cs ss
+
+-- the stretch at a frequency
+abbrev pub stretchOf : Plain → Float → Float
+stretchOf x f0 = between (x .stretches) (sidesOf (bracketOf (x .pitches) (length (x .pitches)) f0))
+
+-- with a live band the noise number steps once, and is the bands' input scaled by 1.7320508
+abbrev pub noiseNext : List ℕ → ℕ → ℕ
+noiseNext [] n = n
+noiseNext (b ∷ live) n = stepped n
+
+-- one frequency, cleaned: with no entries nothing moves
+abbrev pub atFrequency : List Float → Plain → Float → Machine → Machine
+atFrequency [] x f0 s = s
+atFrequency (p ∷ ps) x f0 s = record {
+  phases = gain 1 f0 (stretchOf x f0) (inverseOf (x .rate)) (s .phases);
+  memories = tick 0 (bipolarOf (stepped (s .noise)) ⊗ unitVariance) (x .live) (x .bands) (s .memories);
+  noise = noiseNext (x .live) (s .noise);
+}
+
+unfoldable pub move : Plain → Machine → Event → Machine
+move x s (frequency f) = atFrequency (x .pitches) x (cleaned f) s
+move x s reset = startFrom x
+move x s (seed n) = record { phases = s .phases; memories = replicate (length (x .bands)) cleared; noise = newRng n .state }
+
+unfoldable pub machineFrom : Plain → Machine → List Event → Machine
+machineFrom x s [] = s
+machineFrom x s (e ∷ es) = machineFrom x (move x s e) es
+
+-- the machine after some events from its start
+abbrev pub machine : Plain → List Event → Machine
+machine x es = machineFrom x (startFrom x) es

@@ -1,0 +1,117 @@
+-- Laws of an entry's coefficients, by the tests of the code. Assumes nothing.
+use Prim.Native.Nat.{ℕ, zero, suc, _+_, _-_, _*_, _/_, _%_, _≤_, _<_, max}
+use mathlib.Core.Path.{_≡_, refl, ap, sym, _∙_}
+use mathlib.Core.List.{List, [], _∷_}
+use mathlib.Core.Bool.{Bool, true, false, _&&_, _||_}
+use native.Mathlib.Omega.{arith}
+use native.Mathlib.Numerals.{add-one}
+use native.Mathlib.Nat.{mod-lt, div-lt-iff-lt-mul, div-add-mod', mul-zero, mul-comm}
+use lib.ListN.{length, getD}
+use lib.Dec.{leb, ltb, eqb}
+use lib.Ieee.{Float}
+use borrow.Author.Tests.{leb-true, eqb-true, lt-ltb, le-ltb, le-leb, lt-leb}
+use Rattle.wire.specs.Parse.{Refusal, pick}
+use Rattle.table.specs.declared.entry.EntryView.{EntryView}
+use Rattle.table.specs.declared.error.CoeffTableCodecError.{CoeffTableCodecError}
+use Rattle.table.specs.Answer.{refusalOf}
+use Rattle.table.specs.Table.{PitchEntry, mPartials, coefficientAt}
+use Rattle.table.specs.View.{entryAt}
+use Rattle.table.proofs.WordLaws.{length-words}
+use Rattle.table.proofs.EntryLaws.{coefficient-is}
+use Rattle.player.specs.F32.{nearest}
+use Rattle.making.specs.Making.{f32, sizesOk, partialCoeff, noiseCoeff, isNonzero, reach, reachIn, liveIn}
+use Rattle.making.specs.Views.{formed}
+use Rattle.making.proofs.MakeLists.{both}
+
+-- M is what the view says
+pub partials-are : (s : List ℕ) (v : EntryView) → mPartials (entryAt s v) ≡ v .«m_partials»
+partials-are s v = length-words s (v .«partials_at») (v .«m_partials»)
+
+pub partial-there : (s : List ℕ) (v : EntryView) (c i : ℕ) → i < v .«m_partials» → partialCoeff (entryAt s v) c i ≡ f32 (coefficientAt (entryAt s v) c i)
+partial-there s v c i h = rw (partials-are s v, lt-ltb i (v .«m_partials») h) refl
+
+pub partial-lacking : (s : List ℕ) (v : EntryView) (c i : ℕ) → v .«m_partials» ≤ i → partialCoeff (entryAt s v) c i ≡ nearest 0 1
+partial-lacking s v c i h = rw (partials-are s v, le-ltb i (v .«m_partials») h) refl
+
+pub noise-there : (s : List ℕ) (v : EntryView) (c b : ℕ) → b < v .«j_noise» → noiseCoeff (entryAt s v) c b ≡ f32 (coefficientAt (entryAt s v) c (v .«m_partials» + b))
+noise-there s v c b h = rw (partials-are s v, lt-ltb b (v .«j_noise») h) refl
+
+pub noise-lacking : (s : List ℕ) (v : EntryView) (c b : ℕ) → v .«j_noise» ≤ b → noiseCoeff (entryAt s v) c b ≡ nearest 0 1
+noise-lacking s v c b h = rw (le-ltb b (v .«j_noise») h) refl
+
+-- question 8 of one entry
+pub sizes-are : (s : List ℕ) (v : EntryView) → sizesOk (entryAt s v) ≡ true → (v .«m_partials» ≤ 32) × (v .«j_noise» ≤ 16)
+sizes-are s v h =
+    let p = both (leb (mPartials (entryAt s v)) 32) (leb (v .«j_noise») 16) h in
+    (rw (partials-are s v) at (leb-true (mPartials (entryAt s v)) 32 (p .0)), leb-true (v .«j_noise») 16 (p .1))
+
+pub size-yes : (s : List ℕ) (v : EntryView) → v .«m_partials» ≤ 32 → leb (v .«j_noise») 16 ≡ sizesOk (entryAt s v)
+size-yes s v h = rw (partials-are s v, le-leb (v .«m_partials») 32 h) refl
+
+pub size-no : (s : List ℕ) (v : EntryView) → 32 < v .«m_partials» → false ≡ sizesOk (entryAt s v)
+size-no s v h = rw (partials-are s v, lt-leb (v .«m_partials») 32 h) refl
+
+-- the coefficients are k rows of a width, one after the other
+pub formed-is : (s : List ℕ) (v : EntryView) → formed (entryAt s v) ≡ true → v .«k_channels» * (v .«m_partials» + v .«j_noise») ≡ v .coefficients
+formed-is s v h =
+    let p : v .«k_channels» * (mPartials (entryAt s v) + v .«j_noise») ≡ length (entryAt s v .coefficients) = eqb-true _ _ h in
+    ap (λ (m : ℕ). v .«k_channels» * (m + v .«j_noise»)) (sym (partials-are s v)) ∙ p ∙ length-words s (v .«coefficients_at») (v .coefficients)
+
+not-empty : (k w x n : ℕ) → k * w ≡ n → x < n → 0 < w
+not-empty k zero x n e h = absurd (omega (arith, mul-zero k))
+not-empty k (suc w) x n e h = omega arith
+
+pub row-wide : (s : List ℕ) (v : EntryView) (x : ℕ) → formed (entryAt s v) ≡ true → x < v .coefficients → 0 < v .«m_partials» + v .«j_noise»
+row-wide s v x f h = not-empty (v .«k_channels») (v .«m_partials» + v .«j_noise») x (v .coefficients) (formed-is s v f) h
+
+pub coefficient-flat : (s : List ℕ) (v : EntryView) (x : ℕ) → formed (entryAt s v) ≡ true → x < v .coefficients
+    → coefficientAt (entryAt s v) (x / (v .«m_partials» + v .«j_noise»)) (x % (v .«m_partials» + v .«j_noise»)) ≡ getD (entryAt s v .coefficients) x 0
+coefficient-flat s v x f h =
+    let w = v .«m_partials» + v .«j_noise» in
+    let p : 0 < w = row-wide s v x f h in
+    let e = formed-is s v f in
+    let a : x / w < v .«k_channels» = div-lt-iff-lt-mul p .1 (rw e h) in
+    coefficient-is s v (x / w) (x % w) a (mod-lt x p) ∙ ap (λ (i : ℕ). getD (entryAt s v .coefficients) i 0) (div-add-mod' x w)
+
+-- the highest partial that is not 0, from the top down
+pub reach-hit : (e : PitchEntry) (c i : ℕ) → 0 < i → isNonzero (partialCoeff e c (i - 1)) ≡ true → reach e c i ≡ i
+unfolding reach
+reach-hit e c zero h t = absurd (omega arith)
+reach-hit e c (suc i) h t = let q : suc i - 1 ≡ i = omega arith in rw (rw q at t) refl
+
+pub reach-miss : (e : PitchEntry) (c i : ℕ) → 0 < i → isNonzero (partialCoeff e c (i - 1)) ≡ false → reach e c i ≡ reach e c (i - 1)
+unfolding reach
+reach-miss e c zero h t = absurd (omega arith)
+reach-miss e c (suc i) h t = let q : suc i - 1 ≡ i = omega arith in rw (q, rw q at t) refl
+
+pub reach-next : (e : PitchEntry) (q : ℕ) → reachIn e (q + 1) ≡ max (reachIn e q) (reach e q (mPartials e))
+unfolding reachIn
+reach-next e q = rw add-one refl
+
+or-true : (b : Bool) → b || true ≡ true
+or-true true = refl
+or-true false = refl
+
+or-false : (b : Bool) → b || false ≡ b
+or-false true = refl
+or-false false = refl
+
+pub live-hit : (e : PitchEntry) (b q : ℕ) → 0 < q → isNonzero (noiseCoeff e (q - 1) b) ≡ true → liveIn e b q ≡ true
+unfolding liveIn
+live-hit e b zero h t = absurd (omega arith)
+live-hit e b (suc q) h t = let p : suc q - 1 ≡ q = omega arith in rw (rw p at t) (or-true (liveIn e b q))
+
+pub live-miss : (e : PitchEntry) (b q : ℕ) → 0 < q → isNonzero (noiseCoeff e (q - 1) b) ≡ false → liveIn e b q ≡ liveIn e b (q - 1)
+unfolding liveIn
+live-miss e b zero h t = absurd (omega arith)
+live-miss e b (suc q) h t = let p : suc q - 1 ≡ q = omega arith in rw (p, rw p at t) (or-false (liveIn e b q))
+
+-- a refused image's answer is none of "done"
+pub refused-number : (e : CoeffTableCodecError) → eqb (refusalOf e .number) 0 ≡ false
+refused-number CoeffTableCodecError.TooLong = refl
+refused-number CoeffTableCodecError.UnexpectedEof = refl
+refused-number CoeffTableCodecError.BadMagic = refl
+refused-number (CoeffTableCodecError.UnsupportedVersion v) = refl
+refused-number CoeffTableCodecError.BadUtf8 = refl
+refused-number (CoeffTableCodecError.MalformedEntry i) = refl
+refused-number (CoeffTableCodecError.InconsistentNoiseBandSpan f i) = refl

@@ -1,0 +1,317 @@
+-- A fresh voice keeps the voice rules: question 13 is answered yes of every voice that a making gives. Assumes nothing.
+use Prim.Native.Nat.{ℕ, zero, suc, _+_, _-_, _≤_, _<_, max, min}
+use mathlib.Core.Path.{_≡_, refl, ap, sym, subst, _∙_}
+use mathlib.Core.Logic.{_⊎_, inl, inr}
+use mathlib.Core.List.{List, [], _∷_, _++_, map, append-nil}
+use mathlib.Core.Bool.{Bool, true, false, _&&_}
+use native.Mathlib.Omega.{arith}
+use native.Mathlib.Numerals.{add-one}
+use native.Mathlib.Nat.{eq-or-lt-of-le, le-of-suc-le-suc}
+use lib.ListN.{length, getD, replicate, length-append, length-map, List·getD-append, getD-replicate}
+use lib.Seq.{getD-append-seam}
+use lib.Dec.{T, leb, ltb, eqb}
+use lib.Ieee.{Float, nan, inf, fin, round, lt, le, eq}
+use lib.Ieee.Scale.{finite}
+use borrow.Author.Tests.{leb-true, le-leb, lt-ltb}
+use Rattle.wire.specs.Parse.{Refusal, Parsed, ok, refused, pick}
+use Rattle.float.proofs.Compare.{finite-not-lt, lt-le}
+use Rattle.table.specs.declared.desk.Kind.{Kind}
+use Rattle.table.specs.Table.{PitchEntry, CoeffTable, mPartials, hasChannel, metadataValue}
+use Rattle.table.specs.Decode.{decode, entriesOf}
+use Rattle.table.specs.Desk.{bandCount}
+use Rattle.player.specs.F32.{nearest}
+use Rattle.player.specs.Lists.{steps, every, padded}
+use Rattle.player.specs.Voice.{pitchOk, stretchOk, phaseOk, pitchesAscend, bandsAscend, countsOk, entriesOk, liveOk, phasesOk, keepsRules, rateOk}
+use Rattle.making.specs.Making.{f32, all, sizesOk, valuesOk, keeps, insert, gathered, voiceEntries, mostChannels, channelCount, partialCoeff, isNonzero, presentFinite, mainlobeKey, noiseGainKey, reach, reachIn, phasesFor, phaseCount, isLive, liveBands, freshVoice, makeQuestion}
+use Rattle.making.proofs.MakeLists.{both}
+use Rattle.making.proofs.SortLaws.{all-insert, all-gathered, bands-few}
+use Rattle.making.proofs.MakingLaws.{Accepted, live-short}
+use Rattle.making.proofs.AcceptedLaws.{make-accepted}
+
+-- ---- tests of all, as a list's and as a count's
+all-imp : {A : Type 0} (f g : A → Bool) (l : List A) → ((a : A) → f a ≡ true → g a ≡ true) → all f l ≡ true → all g l ≡ true
+unfolding all
+all-imp f g [] i h = refl
+all-imp f g (a ∷ l) i h = let p = both (f a) (all f l) h in rw (i a (p .0)) (all-imp f g l i (p .1))
+
+every-is : (test : ℕ → Bool) (n : ℕ) → ((i : ℕ) → i < n → test i ≡ true) → every test n ≡ true
+unfolding steps
+every-is test zero h = refl
+every-is test (suc n) h = rw (every-is test n (λ i k. h i (omega arith)), h n (omega arith)) refl
+
+all-getD : {A : Type 0} (test : Float → Bool) (g : A → Float) (l : List A) (i : ℕ) → all (λ e. test (g e)) l ≡ true → i < length l → test (getD (map g l) i nan) ≡ true
+unfolding all
+all-getD test g [] i h k = absurd (omega arith)
+all-getD test g (a ∷ l) zero h k = both (test (g a)) (all (λ e. test (g e)) l) h .0
+all-getD test g (a ∷ l) (suc i) h k = all-getD test g l i (both (test (g a)) (all (λ e. test (g e)) l) h .1) (omega arith)
+
+-- a place of a padded array that is in use
+padded-at : {A : Type 0} (z d : A) (n i : ℕ) (l : List A) → i < length l → getD (padded n z l) i d ≡ getD l i d
+padded-at z d n i l h = List·getD-append l (replicate (n - length l) z) d i h
+
+padded-all : {A : Type 0} (test : Float → Bool) (g : A → Float) (z : Float) (n : ℕ) (l : List A) → all (λ e. test (g e)) l ≡ true
+    → every (λ i. test (getD (padded n z (map g l)) i nan)) (length l) ≡ true
+padded-all test g z n l h = every-is _ (length l) λ i k.
+    ap test (padded-at z nan n i (map g l) (rw (length-map l g) k)) ∙ all-getD test g l i h k
+
+-- ---- sorted entries ascend
+abbrev pitch : PitchEntry → Float
+pitch e = f32 (e .f0Hz)
+
+-- each pitch is at most the next
+unfoldable ascends : List PitchEntry → Bool
+ascends [] = true
+ascends (x ∷ []) = true
+ascends (x ∷ y ∷ l) = le (pitch x) (pitch y) && ascends (y ∷ l)
+
+pitch-finite : (f : Float) → pitchOk f ≡ true → T (finite f)
+unfolding round lt le eq
+pitch-finite nan h = let z : _≡_ {A = ℕ} 0 1 = cc in absurd (omega arith)
+pitch-finite (inf true) h = let z : _≡_ {A = ℕ} 0 1 = cc in absurd (omega arith)
+pitch-finite (inf false) h = let z : _≡_ {A = ℕ} 0 1 = cc in absurd (omega arith)
+pitch-finite (fin s m e) h = tt
+
+T-true : (b : Bool) → T b → b ≡ true
+T-true true t = refl
+T-true false t = absurd t
+
+true-T : (b : Bool) → b ≡ true → T b
+true-T b e = subst T (sym e) tt
+
+-- an entry of at most the first pitch goes before
+ascends-cons : (x : PitchEntry) (l : List PitchEntry) → ascends l ≡ true → ((y : PitchEntry) (m : List PitchEntry) → l ≡ y ∷ m → le (pitch x) (pitch y) ≡ true) → ascends (x ∷ l) ≡ true
+unfolding ascends
+ascends-cons x [] h k = refl
+ascends-cons x (y ∷ m) h k = rw (k y m refl) h
+
+ascends-tail : (x : PitchEntry) (l : List PitchEntry) → ascends (x ∷ l) ≡ true → ascends l ≡ true
+unfolding ascends
+ascends-tail x [] h = refl
+ascends-tail x (y ∷ m) h = both (le (pitch x) (pitch y)) (ascends (y ∷ m)) h .1
+
+ascends-head : (x y : PitchEntry) (m : List PitchEntry) → ascends (x ∷ y ∷ m) ≡ true → le (pitch x) (pitch y) ≡ true
+unfolding ascends
+ascends-head x y m h = both (le (pitch x) (pitch y)) (ascends (y ∷ m)) h .0
+
+-- the first of the entries after an insertion: the new one or the old first
+first-is : (e x : PitchEntry) (l : List PitchEntry) → ascends (x ∷ l) ≡ true → le (pitch x) (pitch e) ≡ true
+    → (y : PitchEntry) (m : List PitchEntry) → insert e l ≡ y ∷ m → le (pitch x) (pitch y) ≡ true
+unfolding insert
+first-is e x [] h k y m q = let p : e ≡ y = cc in rw (← p) k
+first-is e x (z ∷ l) h k y m q = go (lt (pitch e) (pitch z)) q
+  where
+    go : (b : Bool) → pick b (e ∷ z ∷ l) (z ∷ insert e l) ≡ y ∷ m → le (pitch x) (pitch y) ≡ true
+    go true p = let w : e ≡ y = cc in rw (← w) k
+    go false p = let w : z ≡ y = cc in rw (← w) (ascends-head x z l h)
+
+insert-ascends : (e : PitchEntry) (l : List PitchEntry) → pitchOk (pitch e) ≡ true → all (λ x. pitchOk (pitch x)) l ≡ true → ascends l ≡ true → ascends (insert e l) ≡ true
+unfolding insert all
+insert-ascends e [] p a h = ascends-cons e [] h (λ y m q. let z : _≡_ {A = ℕ} 0 1 = cc in absurd (omega arith))
+insert-ascends e (x ∷ l) p a h =
+    let w = both (pitchOk (pitch x)) (all (λ x. pitchOk (pitch x)) l) a in
+    go (lt (pitch e) (pitch x)) refl (w .0) (insert-ascends e l p (w .1) (ascends-tail x l h))
+  where
+    go : (b : Bool) → lt (pitch e) (pitch x) ≡ b → pitchOk (pitch x) ≡ true → ascends (insert e l) ≡ true → ascends (pick b (e ∷ x ∷ l) (x ∷ insert e l)) ≡ true
+    go true q o ih = ascends-cons e (x ∷ l) h (λ y m r.
+        let s : x ≡ y = cc in
+        rw (← s) (T-true (le (pitch e) (pitch x)) (lt-le (pitch e) (pitch x) (true-T (lt (pitch e) (pitch x)) q))))
+    go false q o ih = ascends-cons x (insert e l) ih (first-is e x l h (T-true (le (pitch x) (pitch e)) (finite-not-lt (pitch e) (pitch x) (pitch-finite (pitch e) p) (pitch-finite (pitch x) o) q)))
+
+gathered-ascends : (k : Kind) (before es : List PitchEntry) → all (λ x. pitchOk (pitch x)) before ≡ true → all (λ x. pitchOk (pitch x)) es ≡ true → ascends before ≡ true
+    → (all (λ x. pitchOk (pitch x)) (gathered k before es) ≡ true) × (ascends (gathered k before es) ≡ true)
+unfolding gathered all insert
+gathered-ascends k before [] p a h = (p, h)
+gathered-ascends k before (e ∷ es) p a h =
+    let w = both (pitchOk (pitch e)) (all (λ x. pitchOk (pitch x)) es) a in
+    go (keeps k e) (w .0) (λ b q r. gathered-ascends k b es q (w .1) r)
+  where
+    go : (b : Bool) → pitchOk (pitch e) ≡ true
+        → ((l : List PitchEntry) → all (λ x. pitchOk (pitch x)) l ≡ true → ascends l ≡ true → (all (λ x. pitchOk (pitch x)) (gathered k l es) ≡ true) × (ascends (gathered k l es) ≡ true))
+        → (all (λ x. pitchOk (pitch x)) (gathered k (pick b (insert e before) before) es) ≡ true) × (ascends (gathered k (pick b (insert e before) before) es) ≡ true)
+    go true o ih = ih (insert e before) (all-insert (λ x. pitchOk (pitch x)) e before o p) (insert-ascends e before o p h)
+    go false o ih = ih before p h
+
+-- one place and the next
+ascends-at : (l : List PitchEntry) (i : ℕ) → ascends l ≡ true → i + 1 < length l → le (getD (map pitch l) i nan) (getD (map pitch l) (i + 1) nan) ≡ true
+unfolding ascends
+ascends-at [] i h k = absurd (omega arith)
+ascends-at (x ∷ []) i h k = absurd (omega arith)
+ascends-at (x ∷ y ∷ l) zero h k = both (le (pitch x) (pitch y)) (ascends (y ∷ l)) h .0
+ascends-at (x ∷ y ∷ l) (suc i) h k =
+    let q : suc i + 1 ≡ suc (i + 1) = omega arith in
+    rw q (ascends-at (y ∷ l) i (both (le (pitch x) (pitch y)) (ascends (y ∷ l)) h .1) (omega arith))
+
+pitches-ascend : (l : List PitchEntry) → ascends l ≡ true → pitchesAscend (padded 16 (nearest 0 1) (map pitch l)) (length l) ≡ true
+pitches-ascend l h = every-is _ (length l - 1) λ i k.
+    let n = length-map l pitch in
+    rw (padded-at (nearest 0 1) nan 16 i (map pitch l) (omega arith), padded-at (nearest 0 1) nan 16 (i + 1) (map pitch l) (omega arith)) (ascends-at l i h (omega arith))
+
+-- ---- counts
+insert-length : (e : PitchEntry) (l : List PitchEntry) → length (insert e l) ≡ suc (length l)
+unfolding insert
+insert-length e [] = refl
+insert-length e (x ∷ l) = go (lt (pitch e) (pitch x)) (insert-length e l)
+  where
+    go : (b : Bool) → length (insert e l) ≡ suc (length l) → length (pick b (e ∷ x ∷ l) (x ∷ insert e l)) ≡ suc (suc (length l))
+    go true q = refl
+    go false q = ap suc q
+
+gathered-length : (k : Kind) (before es : List PitchEntry) → length (gathered k before es) ≤ length before + length es
+unfolding gathered
+gathered-length k before [] = omega arith
+gathered-length k before (e ∷ es) = go (keeps k e) (gathered-length k (insert e before) es) (gathered-length k before es)
+  where
+    go : (b : Bool) → length (gathered k (insert e before) es) ≤ length (insert e before) + length es → length (gathered k before es) ≤ length before + length es
+        → length (gathered k (pick b (insert e before) before) es) ≤ length before + suc (length es)
+    go true p q = omega (arith, insert-length e before)
+    go false p q = omega arith
+
+channels-few : (k : Kind) (es : List PitchEntry) → channelCount k es ≤ 4
+channels-few (Kind.Single c) es = omega arith
+channels-few Kind.Blend es = omega arith
+
+reach-few : (e : PitchEntry) (c n : ℕ) → reach e c n ≤ n
+unfolding reach
+reach-few e c zero = omega arith
+reach-few e c (suc n) = go (isNonzero (partialCoeff e c n)) (reach-few e c n)
+  where
+    go : (b : Bool) → reach e c n ≤ n → pick b (suc n) (reach e c n) ≤ suc n
+    go true h = omega arith
+    go false h = omega arith
+
+reach-in-few : (e : PitchEntry) (n : ℕ) → reachIn e n ≤ mPartials e
+unfolding reachIn
+reach-in-few e zero = omega arith
+reach-in-few e (suc n) = let a = reach-in-few e n in let b = reach-few e n (mPartials e) in omega arith
+
+phases-for-few : (k : Kind) (n : ℕ) (e : PitchEntry) → phasesFor k n e ≤ mPartials e
+phases-for-few (Kind.Single c) n e = go (hasChannel e c)
+  where
+    go : (b : Bool) → pick b (mPartials e) 0 ≤ mPartials e
+    go true = omega arith
+    go false = omega arith
+phases-for-few Kind.Blend n e = reach-in-few e n
+
+phases-few : (k : Kind) (n : ℕ) (es : List PitchEntry) → all sizesOk es ≡ true → phaseCount k n es ≤ 32
+unfolding all phaseCount
+phases-few k n [] h = omega arith
+phases-few k n (e ∷ es) h =
+    let p = both (sizesOk e) (all sizesOk es) h in
+    let m : mPartials e ≤ 32 = leb-true _ _ (both (leb (mPartials e) 32) (leb (e .jNoise) 16) (p .0) .0) in
+    let a = phases-for-few k n e in
+    let b = phases-few k n es (p .1) in
+    omega arith
+
+-- ---- live bands ascend, each below the band count
+record Rising (b : ℕ) (l : List ℕ) : Type 0 where
+  below : (i : ℕ) → i < length l → getD l i 0 < b
+  up : (i : ℕ) → i + 1 < length l → getD l i 0 < getD l (i + 1) 0
+
+rising-snoc : (b : ℕ) (l : List ℕ) → Rising b l → Rising (suc b) (l ++ (b ∷ []))
+rising-snoc b l r = record { below = below; up = up }
+  where
+    at : (i : ℕ) → i < length l → getD (l ++ (b ∷ [])) i 0 ≡ getD l i 0
+    at i h = List·getD-append l (b ∷ []) 0 i h
+
+    last : (i : ℕ) → i ≡ length l → getD (l ++ (b ∷ [])) i 0 ≡ b
+    last i h = rw h (getD-append-seam l b [] 0)
+
+    cases : (i : ℕ) → i < length (l ++ (b ∷ [])) → (i ≡ length l) ⊎ (i < length l)
+    cases i h =
+        let q : i < suc (length l) = omega (arith, length-append l (b ∷ [])) in
+        eq-or-lt-of-le (le-of-suc-le-suc q)
+
+    below : (i : ℕ) → i < length (l ++ (b ∷ [])) → getD (l ++ (b ∷ [])) i 0 < suc b
+    below i h = go (cases i h)
+      where
+        go : (i ≡ length l) ⊎ (i < length l) → getD (l ++ (b ∷ [])) i 0 < suc b
+        go (inl e) = omega (arith, last i e)
+        go (inr k) = omega (arith, at i k, r .below i k)
+
+    up : (i : ℕ) → i + 1 < length (l ++ (b ∷ [])) → getD (l ++ (b ∷ [])) i 0 < getD (l ++ (b ∷ [])) (i + 1) 0
+    up i h = go (cases (i + 1) h)
+      where
+        go : (i + 1 ≡ length l) ⊎ (i + 1 < length l) → getD (l ++ (b ∷ [])) i 0 < getD (l ++ (b ∷ [])) (i + 1) 0
+        go (inl e) = omega (arith, last (i + 1) e, at i (omega arith), r .below i (omega arith))
+        go (inr k) = omega (arith, at i (omega arith), at (i + 1) k, r .up i k)
+
+rising-more : (b : ℕ) (l : List ℕ) → Rising b l → Rising (suc b) l
+rising-more b l r = record { below = λ i h. omega (arith, r .below i h); up = r .up }
+
+live-rising : (k : Kind) (es : List PitchEntry) (b : ℕ) → Rising b (liveBands k es b)
+unfolding liveBands
+live-rising k es zero = record { below = λ i h. absurd (omega arith); up = λ i h. absurd (omega arith) }
+live-rising k es (suc b) = go (isLive k es b) (live-rising k es b)
+  where
+    go : (x : Bool) → Rising b (liveBands k es b) → Rising (suc b) (liveBands k es b ++ pick x (b ∷ []) [])
+    go true r = rising-snoc b (liveBands k es b) r
+    go false r = rw (append-nil (liveBands k es b)) (rising-more b (liveBands k es b) r)
+
+bands-below : (b : ℕ) (l : List ℕ) → Rising b l → every (λ i. ltb (getD (padded 16 0 l) i 0) b) (length l) ≡ true
+bands-below b l r = every-is _ (length l) λ i k. rw (padded-at 0 0 16 i l k) (lt-ltb (getD l i 0) b (r .below i k))
+
+bands-ascend : (b : ℕ) (l : List ℕ) → Rising b l → bandsAscend (padded 16 0 l) (length l) ≡ true
+bands-ascend b l r = every-is _ (length l - 1) λ i k.
+    rw (padded-at 0 0 16 i l (omega arith), padded-at 0 0 16 (i + 1) l (omega arith)) (lt-ltb (getD l i 0) (getD l (i + 1) 0) (r .up i (omega arith)))
+
+-- ---- phases are 0
+zero-phase : phaseOk (nearest 0 1) ≡ true
+unfolding round lt le eq
+zero-phase = refl
+
+phases-ok : (m : ℕ) → m ≤ 32 → phasesOk (replicate 32 (nearest 0 1)) m ≡ true
+unfolding phasesOk
+phases-ok m h = every-is _ m λ i k. ap phaseOk (getD-replicate 32 i (nearest 0 1) nan (omega arith)) ∙ zero-phase
+
+-- ---- the whole
+value-pitch : (e : PitchEntry) → valuesOk e ≡ true → pitchOk (pitch e) ≡ true
+unfolding valuesOk
+value-pitch e h = both (pitchOk (pitch e)) (stretchOk (f32 (e .stretch)) && (all (λ b. finite (f32 b)) (e .coefficients) && (presentFinite (metadataValue mainlobeKey (e .metadata)) && presentFinite (metadataValue noiseGainKey (e .metadata))))) h .0
+
+value-stretch : (e : PitchEntry) → valuesOk e ≡ true → stretchOk (f32 (e .stretch)) ≡ true
+unfolding valuesOk
+value-stretch e h = both (stretchOk (f32 (e .stretch))) (all (λ b. finite (f32 b)) (e .coefficients) && (presentFinite (metadataValue mainlobeKey (e .metadata)) && presentFinite (metadataValue noiseGainKey (e .metadata)))) (both (pitchOk (pitch e)) (stretchOk (f32 (e .stretch)) && (all (λ b. finite (f32 b)) (e .coefficients) && (presentFinite (metadataValue mainlobeKey (e .metadata)) && presentFinite (metadataValue noiseGainKey (e .metadata))))) h .1) .0
+
+both-true : (a b : Bool) → a ≡ true → b ≡ true → a && b ≡ true
+both-true a b p q = rw (p, q) refl
+
+module _ (k : Kind) (es : List PitchEntry) (rate : Float) (centres : List Float) (a : Accepted k es rate centres) where
+  counts-ok : countsOk (freshVoice k es rate centres) ≡ true
+  unfolding countsOk freshVoice
+  counts-ok =
+      let g = gathered-length k [] es in
+      let n : length (voiceEntries k es) ≤ 16 = omega (arith, a .few) in
+      let b = bands-few k es (a .sizes) in
+      let s = live-short k es (bandCount k es) in
+      let l : length (liveBands k es (bandCount k es)) ≤ 16 = omega arith in
+      both-true _ _ (le-leb _ _ n)
+      (both-true _ _ (le-leb _ _ (phases-few k (channelCount k es) es (a .sizes)))
+      (both-true _ _ (le-leb _ _ b)
+      (both-true _ _ (le-leb _ _ (channels-few k es)) (le-leb _ _ l))))
+
+  entries-ok : entriesOk (freshVoice k es rate centres) ≡ true
+  unfolding entriesOk freshVoice all ascends
+  entries-ok =
+      let v = all-gathered valuesOk k [] es refl (a .values) in
+      let p = all-imp valuesOk (λ (e : PitchEntry). pitchOk (pitch e)) (voiceEntries k es) value-pitch v in
+      let s = all-imp valuesOk (λ (e : PitchEntry). stretchOk (f32 (e .stretch))) (voiceEntries k es) value-stretch v in
+      let g = gathered-ascends k [] es refl (all-imp valuesOk (λ (e : PitchEntry). pitchOk (pitch e)) es value-pitch (a .values)) refl in
+      both-true _ _ (padded-all pitchOk pitch (nearest 0 1) 16 (voiceEntries k es) p)
+      (both-true _ _ (pitches-ascend (voiceEntries k es) (g .1)) (padded-all stretchOk (λ (e : PitchEntry). f32 (e .stretch)) (nearest 0 1) 16 (voiceEntries k es) s))
+
+  live-ok : liveOk (freshVoice k es rate centres) ≡ true
+  unfolding liveOk freshVoice
+  live-ok =
+      let r = live-rising k es (bandCount k es) in
+      both-true _ _ (bands-below (bandCount k es) (liveBands k es (bandCount k es)) r) (bands-ascend (bandCount k es) (liveBands k es (bandCount k es)) r)
+
+  pub accepted-rules : keepsRules (freshVoice k es rate centres) ≡ true
+  unfolding keepsRules freshVoice
+  accepted-rules =
+      both-true _ _ counts-ok
+      (both-true _ _ entries-ok (both-true _ _ (a .rate-ok) (both-true _ _ live-ok (phases-ok _ (phases-few k (channelCount k es) es (a .sizes))))))
+
+-- LAW: a fresh voice keeps the voice rules
+pub fresh-rules : (k : Kind) (image : List ℕ) (rate : Float) (centres : List Float) → makeQuestion k image rate centres .number ≡ 0
+    → keepsRules (freshVoice k (entriesOf (decode image)) rate centres) ≡ true
+fresh-rules k image rate centres h = make-accepted k image rate centres h λ t e p a. rw p (accepted-rules k (t .entries) rate centres a)

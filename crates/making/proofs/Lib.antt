@@ -1,0 +1,12 @@
+pub mod ViewLaws
+pub mod MakeLists
+pub mod CoeffLaws
+pub mod GatherLaws
+pub mod PlaceLaws
+pub mod MakingLaws
+pub mod SortLaws
+pub mod ReadLaws
+pub mod VoiceFields
+pub mod AcceptedLaws
+pub mod FreshLaws
+pub mod MakeApart

@@ -1,0 +1,87 @@
+use mathlib.Core.Path.{_≡_, refl, sym, ap, _∙_}
+use Prim.Native.Nat.{ℕ, _≤_, _-_, _+_, _<_, max}
+use native.Mathlib.Omega.{arith}
+use lib.ListN.{length}
+use mathlib.Core.List.{List}
+use Rattle.making.specs.Views.{viewed}
+use Rattle.table.specs.Table.{PitchEntry, hasChannel}
+use Rattle.making.specs.Making.{any}
+use Rattle.making.proofs.ViewLaws.{rest, any-go, any-yes, any-end}
+use borrow.Author.Needs.{needs}
+use Rattle.making.proofs.answer.any_channel.Statement.{statement}
+use Rattle.making.proofs.answer.any_channel.Tie as tie
+use Rattle.making.proofs.answer.any_channel.Reads as reads
+use Rattle.making.proofs.answer.any_channel.Lts as lts
+use Rattle.table.proofs.entry.has_channel.Reads as has-channel-reads
+
+abbrev Inv-loop : tie.InvT-loop
+Inv-loop count channel views i₀ i = (i ≤ count) × ((s : List ℕ) → any (λ e. hasChannel e channel) (rest s views i count) ≡ any (λ e. hasChannel e channel) (viewed s views count))
+
+abbrev μ-loop : tie.MeasureT-loop
+μ-loop count channel views i₀ i = count - i
+
+-- src/answer.rt:52:5
+loop-holds : tie.Need-loop-holds Inv-loop μ-loop
+loop-holds c =
+    (omega arith, λ s. refl)
+
+-- src/answer.rt:53:17
+mul-v : tie.Need-mul-v Inv-loop μ-loop
+mul-v c = search needs
+
+-- src/answer.rt:53:17
+array-copy-out-v : tie.Need-array-copy-out-v Inv-loop μ-loop
+array-copy-out-v c = search needs
+
+-- src/answer.rt:54:12
+has-channel-requires : tie.Need-has-channel-requires Inv-loop μ-loop
+has-channel-requires c κs = search needs
+
+-- src/answer.rt:55:13
+returns : tie.Need-returns Inv-loop μ-loop
+returns c =
+    let b1 = c .before in
+    let b3 = b1 .before .before in
+    let b4 = b3 .before in
+    let b5 = b4 .before in
+    let len : length (b5 .args .t1) ≡ 16 = search needs in λ s. sym (sym (b4 .loop .inv .1 s) ∙ any-yes s (b5 .args .t1) (b4 .loop .i) (b5 .args .count) (omega arith) (b3 .loop-test .taken) (λ e. hasChannel e (b5 .args .channel)) (sym (b1 .has-channel .ensures s) ∙ c .if1 .taken))
+
+-- src/answer.rt:57:9
+add-i : tie.Need-add-i Inv-loop μ-loop
+add-i c = search needs
+
+-- src/answer.rt:52:5
+loop-less : tie.Need-loop-less Inv-loop μ-loop
+loop-less c = search needs
+
+-- src/answer.rt:52:5
+loop-again : tie.Need-loop-again Inv-loop μ-loop
+loop-again c =
+    let b1 = c .before in
+    let b3 = b1 .before .before in
+    let b4 = b3 .before in
+    let b5 = b4 .before in
+    let len : length (b5 .args .t1) ≡ 16 = search needs in (omega arith, λ s. sym (any-go s (b5 .args .t1) (b4 .loop .i) (b5 .args .count) (omega arith) (b3 .loop-test .taken) (λ e. hasChannel e (b5 .args .channel)) (sym (b1 .has-channel .ensures s) ∙ c .if1 .left)) ∙ b4 .loop .inv .1 s)
+
+-- src/answer.rt:47:1
+returns-2 : tie.Need-returns-2 Inv-loop μ-loop
+returns-2 c =
+    let b1 = c .before in
+    let b2 = b1 .before in
+    λ s. sym (sym (b1 .loop .inv .1 s) ∙ any-end s (b2 .args .t1) (b1 .loop .i) (b2 .args .count) (c .loop-test .left) (λ e. hasChannel e (b2 .args .channel)))
+
+pub any-channel-spec : {M : Type 1} → statement M
+any-channel-spec =
+    tie.close
+    (tie.spec
+    Inv-loop
+    μ-loop
+    loop-holds
+    mul-v
+    array-copy-out-v
+    has-channel-requires
+    returns
+    add-i
+    loop-less
+    loop-again
+    returns-2)

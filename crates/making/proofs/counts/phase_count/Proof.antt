@@ -1,0 +1,82 @@
+use mathlib.Core.Path.{_≡_, refl, sym, ap, _∙_}
+use Prim.Native.Nat.{ℕ, _≤_, _-_, _+_, _*_, _<_, max}
+use native.Mathlib.Omega.{arith}
+use lib.ListN.{length}
+use mathlib.Core.List.{List}
+use Rattle.making.specs.Views.{viewed}
+use Rattle.making.specs.Making.{phaseCount}
+use Rattle.making.proofs.ViewLaws.{rest, phases-go, phases-end}
+use borrow.Author.Needs.{needs}
+use Rattle.making.proofs.counts.phase_count.Statement.{statement}
+use Rattle.making.proofs.counts.phase_count.Tie as tie
+use Rattle.making.proofs.counts.phase_count.Reads as reads
+use Rattle.making.proofs.counts.phase_count.Lts as lts
+use Rattle.making.proofs.counts.larger.Reads as larger-reads
+use Rattle.making.proofs.counts.phases_for.Reads as phases-for-reads
+
+abbrev Inv-loop : tie.InvT-loop
+Inv-loop s count kind n views best₀ i₀ best i = (i ≤ count) × (max best (phaseCount kind n (rest s views i count)) ≡ phaseCount kind n (viewed s views count))
+
+abbrev μ-loop : tie.MeasureT-loop
+μ-loop s count kind n views best₀ i₀ best i = count - i
+
+-- src/counts.rt:94:5
+loop-holds : tie.Need-loop-holds Inv-loop μ-loop
+loop-holds c =
+    (omega arith, omega arith)
+
+-- src/counts.rt:95:17
+mul-v : tie.Need-mul-v Inv-loop μ-loop
+mul-v c = search needs
+
+-- src/counts.rt:95:17
+array-copy-out-v : tie.Need-array-copy-out-v Inv-loop μ-loop
+array-copy-out-v c = search needs
+
+-- src/counts.rt:96:29
+phases-for-requires : tie.Need-phases-for-requires Inv-loop μ-loop
+phases-for-requires c κs = search needs
+
+-- src/counts.rt:96:9
+larger-requires : tie.Need-larger-requires Inv-loop μ-loop
+larger-requires c κs = search needs
+
+-- src/counts.rt:97:9
+add-i : tie.Need-add-i Inv-loop μ-loop
+add-i c = search needs
+
+-- src/counts.rt:94:5
+loop-less : tie.Need-loop-less Inv-loop μ-loop
+loop-less c = search needs
+
+-- src/counts.rt:94:5
+loop-again : tie.Need-loop-again Inv-loop μ-loop
+loop-again c =
+    let b1 = c .before in
+    let b3 = b1 .before .before in
+    let b4 = b3 .before in
+    let b6 = b4 .before .before in
+    let len : length (b6 .args .t2) ≡ 16 = search needs in let p = b4 .loop .inv .1 in let q = phases-go (b6 .args .s .now) (b6 .args .t2) (b4 .loop .i) (b6 .args .count) (omega arith) (b3 .loop-test .taken) (b6 .args .kind) (b6 .args .n) in (omega arith, omega (arith, c .larger .ensures, b1 .phases-for .ensures))
+
+-- src/counts.rt:88:1
+returns : tie.Need-returns Inv-loop μ-loop
+returns c =
+    let b1 = c .before in
+    let b3 = b1 .before .before in
+    let p = b1 .loop .inv .1 in let q = phases-end (b3 .args .s .now) (b3 .args .t2) (b1 .loop .i) (b3 .args .count) (c .loop-test .left) (b3 .args .kind) (b3 .args .n) in omega arith
+
+pub phase-count-spec : {M : Type 1} → statement M
+phase-count-spec =
+    tie.close
+    (tie.spec
+    Inv-loop
+    μ-loop
+    loop-holds
+    mul-v
+    array-copy-out-v
+    phases-for-requires
+    larger-requires
+    add-i
+    loop-less
+    loop-again
+    returns)

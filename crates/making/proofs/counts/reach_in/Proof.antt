@@ -1,0 +1,70 @@
+use mathlib.Core.Path.{_≡_, refl, sym, ap, _∙_}
+use Prim.Native.Nat.{ℕ, _≤_, _-_, _+_, _*_, _<_, max}
+use native.Mathlib.Omega.{arith}
+use lib.ListN.{length}
+use Rattle.table.specs.View.{entryAt}
+use Rattle.making.specs.Making.{reachIn, reach}
+use Rattle.making.proofs.CoeffLaws.{reach-next, partials-are}
+use borrow.Author.Needs.{needs}
+use Rattle.making.proofs.counts.reach_in.Statement.{statement}
+use Rattle.making.proofs.counts.reach_in.Tie as tie
+use Rattle.making.proofs.counts.reach_in.Reads as reads
+use Rattle.making.proofs.counts.reach_in.Lts as lts
+use Rattle.making.proofs.counts.larger.Reads as larger-reads
+use Rattle.making.proofs.counts.reach_of.Reads as reach-of-reads
+
+abbrev Inv-loop : tie.InvT-loop
+Inv-loop s v n best₀ q₀ best q = (q ≤ n) × (best ≡ reachIn (entryAt s v) q)
+
+abbrev μ-loop : tie.MeasureT-loop
+μ-loop s v n best₀ q₀ best q = n - q
+
+-- src/counts.rt:66:5
+loop-holds : tie.Need-loop-holds Inv-loop μ-loop
+unfolding reachIn
+loop-holds c =
+    (omega arith, refl)
+
+-- src/counts.rt:67:29
+reach-of-requires : tie.Need-reach-of-requires Inv-loop μ-loop
+reach-of-requires c κs = search needs
+
+-- src/counts.rt:67:9
+larger-requires : tie.Need-larger-requires Inv-loop μ-loop
+larger-requires c κs = search needs
+
+-- src/counts.rt:68:9
+add-q : tie.Need-add-q Inv-loop μ-loop
+add-q c = search needs
+
+-- src/counts.rt:66:5
+loop-less : tie.Need-loop-less Inv-loop μ-loop
+loop-less c = search needs
+
+-- src/counts.rt:66:5
+loop-again : tie.Need-loop-again Inv-loop μ-loop
+loop-again c =
+    let b1 = c .before in
+    let b3 = b1 .before .before in
+    (omega arith, c .larger .ensures ∙ rw (b1 .reach-of .ensures, b3 .loop .inv .1, reach-next, partials-are) refl)
+
+-- src/counts.rt:61:1
+returns : tie.Need-returns Inv-loop μ-loop
+returns c =
+    let b1 = c .before in
+    let b3 = b1 .before .before in
+    let e : b1 .loop .q ≡ b3 .args .n = omega arith in rw (← e) (b1 .loop .inv .1)
+
+pub reach-in-spec : {M : Type 1} → statement M
+reach-in-spec =
+    tie.close
+    (tie.spec
+    Inv-loop
+    μ-loop
+    loop-holds
+    reach-of-requires
+    larger-requires
+    add-q
+    loop-less
+    loop-again
+    returns)

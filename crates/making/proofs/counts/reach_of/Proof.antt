@@ -1,0 +1,81 @@
+use mathlib.Core.Path.{_≡_, refl, sym, ap, _∙_}
+use Prim.Native.Nat.{ℕ, _≤_, _-_, _+_, _<_, max}
+use native.Mathlib.Omega.{arith}
+use lib.ListN.{length}
+use lib.Ieee.{ofBits, round}
+use Rattle.table.specs.View.{entryAt}
+use Rattle.making.specs.Making.{reach, isNonzero}
+use Rattle.making.proofs.CoeffLaws.{reach-hit, reach-miss}
+use borrow.Author.Needs.{needs}
+use Rattle.making.proofs.counts.reach_of.Statement.{statement}
+use Rattle.making.proofs.counts.reach_of.Tie as tie
+use Rattle.making.proofs.counts.reach_of.Reads as reads
+use Rattle.making.proofs.counts.reach_of.Lts as lts
+use Rattle.making.proofs.coeffs.partial_coeff.Reads as partial-coeff-reads
+
+abbrev Inv-loop : tie.InvT-loop
+Inv-loop s v c n i₀ i = (i ≤ n) × (reach (entryAt s v) c i ≡ reach (entryAt s v) c n)
+
+abbrev μ-loop : tie.MeasureT-loop
+μ-loop s v c n i₀ i = i
+
+-- src/counts.rt:51:5
+loop-holds : tie.Need-loop-holds Inv-loop μ-loop
+loop-holds c =
+    (omega arith, refl)
+
+-- src/counts.rt:52:35
+sub-partial-coeff : tie.Need-sub-partial-coeff Inv-loop μ-loop
+sub-partial-coeff c = search needs
+
+-- src/counts.rt:52:12
+partial-coeff-requires : tie.Need-partial-coeff-requires Inv-loop μ-loop
+partial-coeff-requires c κs = search needs
+
+-- src/counts.rt:53:13
+returns : tie.Need-returns Inv-loop μ-loop
+unfolding ofBits round
+returns c =
+    let b1 = c .before in
+    let b2 = b1 .before in
+    let b3 = b2 .before in
+    sym (sym (b3 .loop .inv .1) ∙ reach-hit _ _ _ (b2 .loop-test .taken) (ap isNonzero (sym (b1 .partial-coeff .ensures)) ∙ c .if1 .taken))
+
+-- src/counts.rt:55:9
+sub-i : tie.Need-sub-i Inv-loop μ-loop
+sub-i c = search needs
+
+-- src/counts.rt:51:5
+loop-less : tie.Need-loop-less Inv-loop μ-loop
+loop-less c = search needs
+
+-- src/counts.rt:51:5
+loop-again : tie.Need-loop-again Inv-loop μ-loop
+unfolding ofBits round
+loop-again c =
+    let b1 = c .before in
+    let b2 = b1 .before in
+    let b3 = b2 .before in
+    (omega arith, sym (reach-miss _ _ _ (b2 .loop-test .taken) (ap isNonzero (sym (b1 .partial-coeff .ensures)) ∙ c .if1 .left)) ∙ b3 .loop .inv .1)
+
+-- src/counts.rt:47:1
+returns-2 : tie.Need-returns-2 Inv-loop μ-loop
+unfolding reach
+returns-2 c =
+    let b1 = c .before in
+    sym (sym (b1 .loop .inv .1) ∙ (let z : b1 .loop .i ≡ 0 = omega arith in rw z refl))
+
+pub reach-of-spec : {M : Type 1} → statement M
+reach-of-spec =
+    tie.close
+    (tie.spec
+    Inv-loop
+    μ-loop
+    loop-holds
+    sub-partial-coeff
+    partial-coeff-requires
+    returns
+    sub-i
+    loop-less
+    loop-again
+    returns-2)

@@ -1,0 +1,87 @@
+use mathlib.Core.Path.{_≡_, refl, sym, ap, _∙_}
+use Prim.Native.Nat.{ℕ, _≤_, _-_, _+_, _<_, max}
+use native.Mathlib.Omega.{arith}
+use lib.ListN.{length}
+use mathlib.Core.List.{List}
+use Rattle.making.specs.Views.{viewed}
+use borrow.Author.Tests.{not-true, not-false}
+use Rattle.making.specs.Making.{all, sizesOk}
+use Rattle.making.proofs.ViewLaws.{rest, all-go, all-no, all-end}
+use borrow.Author.Needs.{needs}
+use Rattle.making.proofs.limits.sizes_ok.Statement.{statement}
+use Rattle.making.proofs.limits.sizes_ok.Tie as tie
+use Rattle.making.proofs.limits.sizes_ok.Reads as reads
+use Rattle.making.proofs.limits.sizes_ok.Lts as lts
+use Rattle.making.proofs.limits.size_ok.Reads as size-ok-reads
+
+abbrev Inv-loop : tie.InvT-loop
+Inv-loop count views i₀ i = (i ≤ count) × ((s : List ℕ) → all sizesOk (rest s views i count) ≡ all sizesOk (viewed s views count))
+
+abbrev μ-loop : tie.MeasureT-loop
+μ-loop count views i₀ i = count - i
+
+-- src/limits.rt:24:5
+loop-holds : tie.Need-loop-holds Inv-loop μ-loop
+loop-holds c =
+    (omega arith, λ s. refl)
+
+-- src/limits.rt:25:17
+mul-v : tie.Need-mul-v Inv-loop μ-loop
+mul-v c = search needs
+
+-- src/limits.rt:25:17
+array-copy-out-v : tie.Need-array-copy-out-v Inv-loop μ-loop
+array-copy-out-v c = search needs
+
+-- src/limits.rt:26:13
+size-ok-requires : tie.Need-size-ok-requires Inv-loop μ-loop
+size-ok-requires c κs = search needs
+
+-- src/limits.rt:27:13
+returns : tie.Need-returns Inv-loop μ-loop
+returns c =
+    let b1 = c .before in
+    let b3 = b1 .before .before in
+    let b4 = b3 .before in
+    let b5 = b4 .before in
+    let len : length (b5 .args .t1) ≡ 16 = search needs in λ s. sym (sym (b4 .loop .inv .1 s) ∙ (all-no s (b5 .args .t1) (b4 .loop .i) (b5 .args .count) (omega arith) (b3 .loop-test .taken) sizesOk (sym (b1 .size-ok .ensures s) ∙ not-true _ (c .if1 .taken))))
+
+-- src/limits.rt:29:9
+add-i : tie.Need-add-i Inv-loop μ-loop
+add-i c = search needs
+
+-- src/limits.rt:24:5
+loop-less : tie.Need-loop-less Inv-loop μ-loop
+loop-less c = search needs
+
+-- src/limits.rt:24:5
+loop-again : tie.Need-loop-again Inv-loop μ-loop
+loop-again c =
+    let b1 = c .before in
+    let b3 = b1 .before .before in
+    let b4 = b3 .before in
+    let b5 = b4 .before in
+    let len : length (b5 .args .t1) ≡ 16 = search needs in (omega arith, λ s. sym (all-go s (b5 .args .t1) (b4 .loop .i) (b5 .args .count) (omega arith) (b3 .loop-test .taken) sizesOk (sym (b1 .size-ok .ensures s) ∙ not-false _ (c .if1 .left))) ∙ b4 .loop .inv .1 s)
+
+-- src/limits.rt:19:1
+returns-2 : tie.Need-returns-2 Inv-loop μ-loop
+returns-2 c =
+    let b1 = c .before in
+    let b2 = b1 .before in
+    λ s. sym (sym (b1 .loop .inv .1 s) ∙ all-end s (b2 .args .t1) (b1 .loop .i) (b2 .args .count) (c .loop-test .left) sizesOk)
+
+pub sizes-ok-spec : {M : Type 1} → statement M
+sizes-ok-spec =
+    tie.close
+    (tie.spec
+    Inv-loop
+    μ-loop
+    loop-holds
+    mul-v
+    array-copy-out-v
+    size-ok-requires
+    returns
+    add-i
+    loop-less
+    loop-again
+    returns-2)

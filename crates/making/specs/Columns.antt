@@ -1,0 +1,27 @@
+-- Arrays as the code holds them on the way to a voice. Cited by private functions only.
+use mathlib.Core.List.{List, map}
+use lib.Ieee.{Float}
+use Rattle.table.specs.Table.{PitchEntry}
+use Rattle.player.specs.F32.{nearest}
+use Rattle.player.specs.Lists.{padded}
+use Rattle.player.specs.Filters.{noiseBand}
+use Rattle.making.specs.Making.{f32, gainOf, mainlobeKey, noiseGainKey}
+use Rattle.player.specs.Band.{zeroCoeffs, bandCompensation}
+use Rattle.making.specs.declared.fill.Columns.{Columns}
+use Rattle.making.specs.declared.init.Bands.{Bands}
+
+-- what each sorted entry has one of
+abbrev pub columnsOf : List PitchEntry → Columns
+columnsOf vs = record {
+  «f0_hz» = padded 16 (nearest 0 1) (map (λ e. f32 (e .f0Hz)) vs);
+  stretch = padded 16 (nearest 0 1) (map (λ e. f32 (e .stretch)) vs);
+  «mainlobe_gain» = padded 16 (nearest 0 1) (map (gainOf mainlobeKey) vs);
+  «noise_gain» = padded 16 (nearest 0 1) (map (gainOf noiseGainKey) vs);
+}
+
+-- what each band has one of
+abbrev pub bandsFrom : List Float → Float → Bands
+bandsFrom centres rate = record {
+  coeffs = padded 16 zeroCoeffs (map (λ c. noiseBand c rate) centres);
+  compensation = padded 16 (nearest 0 1) (map (λ c. bandCompensation c rate) centres);
+}

@@ -1,0 +1,5 @@
+pub mod Making
+pub mod Views
+pub mod MakeAnswer
+pub mod Live
+pub mod Columns

@@ -1,0 +1,48 @@
+// The bands of a voice and their compensations, from the centres.
+ghost use mathlib.Core.Path.{_≡_};
+ghost use Prim.Native.Nat.{_≤_};
+ghost use lib.ListN.{length};
+ghost use mathlib.Core.Bool.{true};
+ghost use Rattle.player.specs.Voice.{rateOk};
+ghost use Rattle.player.specs.Band.{zeroCoeffs};
+ghost use Rattle.making.specs.Columns.{bandsFrom};
+use player::BiquadCoeffs;
+use player::init_band;
+
+pub struct Bands {
+    pub coeffs: [BiquadCoeffs; 16],
+    pub compensation: [f32; 16],
+}
+
+pub fn zero_coeffs() -> BiquadCoeffs
+    ensures { λ r. ⌜ r ≡ zeroCoeffs ⌝ }
+{
+    BiquadCoeffs {
+        b0: 0.0,
+        b1: 0.0,
+        b2: 0.0,
+        a1: 0.0,
+        a2: 0.0,
+    }
+}
+
+pub fn init(sample_rate: f32, centres: &[f32]) -> Bands
+    requires { ⌜ rateOk «sample_rate» ≡ true ⌝ ∗ ⌜ length (now centres) ≤ 16 ⌝ }
+    ensures { λ r. ⌜ r ≡ bandsFrom (now (centres .entry)) «sample_rate» ⌝ }
+{
+    let zero = zero_coeffs();
+    let mut coeffs = [zero; 16];
+    let mut compensation = [0.0; 16];
+    let mut i = 0;
+    while i < centres.len() {
+        let band = init_band(centres[i], sample_rate);
+        let c = band.coeffs;
+        coeffs[i] = c;
+        compensation[i] = band.compensation;
+        i += 1;
+    }
+    Bands {
+        coeffs,
+        compensation,
+    }
+}

@@ -1,0 +1,16 @@
+// Making a voice of a table's image: questions 1 to 12, then the fresh voice.
+mod answer;
+mod coeffs;
+mod counts;
+mod fill;
+mod gather;
+mod init;
+mod limits;
+mod live;
+mod making;
+mod values;
+mod views;
+
+pub use answer::MakeAnswer;
+pub use making::MadeVoice;
+pub use making::make;

@@ -1,0 +1,200 @@
+// Making a voice: questions 1 to 12, then the fresh voice.
+ghost use mathlib.Core.Path.{_≡_};
+ghost use Prim.Native.Nat.{ℕ, _≤_};
+ghost use mathlib.Core.List.{List};
+ghost use mathlib.Core.Bool.{true};
+ghost use lib.ListN.{length};
+ghost use Rattle.table.specs.Desk.{bandCount};
+ghost use Rattle.player.specs.Voice.{firstState, rateOk};
+ghost use Rattle.making.specs.Making.{all, sizesOk, kindNumber, kindChannel, freshVoice, blankVoice, makeOf};
+ghost use Rattle.making.specs.Views.{viewed, formed};
+ghost use Rattle.making.specs.MakeAnswer.{makeRefusal, madeOf, tableMade};
+use crate::answer::MakeAnswer;
+use crate::answer::is_done;
+use crate::answer::question;
+use crate::counts::channel_count;
+use crate::counts::phase_count;
+use crate::fill::columns_of;
+use crate::fill::noise;
+use crate::fill::partials;
+use player::BiquadState;
+use crate::gather::gather;
+use crate::init::init;
+use crate::init::zero_coeffs;
+use crate::live::live_bands;
+use player::Rng;
+use crate::views::views_of;
+use player::State;
+use player::Voice;
+use table::desk::DeskRead;
+use table::desk::Kind;
+use table::desk::for_voice;
+use table::entry::EntryView;
+use table::start::entries_start;
+use wire::cursor::Cursor;
+
+// The answer, and the voice: the blank one where the making is refused.
+pub struct MadeVoice {
+    pub answer: MakeAnswer,
+    pub voice: Voice,
+}
+
+// All zero, with no entries.
+fn blank() -> Voice
+    ensures { λ r. ⌜ r ≡ blankVoice ⌝ }
+{
+    let memory = BiquadState::new();
+    let band = zero_coeffs();
+    Voice {
+        blend: 0,
+        channel: 0,
+        count: 0,
+        k: 0,
+        m: 0,
+        j: 0,
+        live_count: 0,
+        live: [0; 16],
+        sample_rate: 0.0,
+        f0_hz: [0.0; 16],
+        stretch: [0.0; 16],
+        mainlobe_gain: [0.0; 16],
+        noise_gain: [0.0; 16],
+        partials: [0.0; 2048],
+        noise: [0.0; 1024],
+        bands: [band; 16],
+        compensation: [0.0; 16],
+        state: State {
+            phases: [0.0; 32],
+            memories: [memory; 16],
+            rng: Rng { state: 0 },
+        },
+    }
+}
+
+fn first_state() -> State
+    ensures { λ r. ⌜ r ≡ firstState ⌝ }
+{
+    let memory = BiquadState::new();
+    State {
+        phases: [0.0; 32],
+        memories: [memory; 16],
+        rng: Rng::default(),
+    }
+}
+
+fn kind_number(kind: Kind) -> u32
+    ensures { λ r. ⌜ r ≡ kindNumber kind ⌝ }
+{
+    match kind {
+        Kind::Single(_) => 0,
+        Kind::Blend => 1,
+    }
+}
+
+fn kind_channel(kind: Kind) -> u32
+    ensures { λ r. ⌜ r ≡ kindChannel kind ⌝ }
+{
+    match kind {
+        Kind::Single(channel) => channel,
+        Kind::Blend => 0,
+    }
+}
+
+fn fresh(
+    image: &[u8],
+    views: [EntryView; 16],
+    count: usize,
+    kind: Kind,
+    j: u32,
+    sample_rate: f32,
+    centres: &[f32],
+) -> Voice
+    requires { ⌜ count ≤ 16 ⌝ ∗ ⌜ all sizesOk (viewed (now image) views count) ≡ true ⌝ ∗ ⌜ j ≡ bandCount kind (viewed (now image) views count) ⌝ ∗ ⌜ rateOk «sample_rate» ≡ true ⌝ ∗ ⌜ length (now centres) ≡ j ⌝ }
+    ensures { λ r. ⌜ r ≡ freshVoice kind (viewed (now (image .entry)) views count) «sample_rate» (now (centres .entry)) ⌝ }
+{
+    let k = channel_count(views, count, kind);
+    let m = phase_count(image, views, count, kind, k);
+    let live = live_bands(image, views, count, kind, k, j);
+    let sorted = gather(views, count, kind);
+    let entries = sorted.views;
+    let n = sorted.count;
+    let cols = columns_of(image, entries, n);
+    let bands = init(sample_rate, centres);
+    let live_list = live.bands;
+    let f0_hz = cols.f0_hz;
+    let stretch = cols.stretch;
+    let mainlobe_gain = cols.mainlobe_gain;
+    let noise_gain = cols.noise_gain;
+    let coeffs = bands.coeffs;
+    let compensation = bands.compensation;
+    Voice {
+        blend: kind_number(kind),
+        channel: kind_channel(kind),
+        count: n,
+        k: k as usize,
+        m: m as usize,
+        j: j as usize,
+        live_count: live.count,
+        live: live_list,
+        sample_rate,
+        f0_hz,
+        stretch,
+        mainlobe_gain,
+        noise_gain,
+        partials: partials(image, entries, n, kind, k),
+        noise: noise(image, entries, n, kind, k),
+        bands: coeffs,
+        compensation,
+        state: first_state(),
+    }
+}
+
+fn refuse(answer: MakeAnswer) -> MadeVoice
+    ensures { λ r. ⌜ (r .answer ≡ answer) × (r .voice ≡ blankVoice) ⌝ }
+{
+    MadeVoice {
+        answer,
+        voice: blank(),
+    }
+}
+
+// Questions 8 to 12 and the voice, of a table of at most 16 entries.
+fn make_from(
+    image: &[u8],
+    views: [EntryView; 16],
+    count: usize,
+    kind: Kind,
+    j: u32,
+    sample_rate: f32,
+    centres: &[f32],
+) -> MadeVoice
+    requires { ⌜ count ≤ 16 ⌝ ∗ ⌜ all formed (viewed (now image) views count) ≡ true ⌝ ∗ ⌜ ((s : List ℕ) → j ≡ bandCount kind (viewed s views count)) ⌝ }
+    ensures { λ r. ⌜ madeOf r ≡ tableMade kind (viewed (now (image .entry)) views count) «sample_rate» (now (centres .entry)) ⌝ }
+{
+    let answer = question(image, views, count, kind, j, sample_rate, centres);
+    if is_done(answer) {
+        return MadeVoice {
+            answer: MakeAnswer::Done,
+            voice: fresh(image, views, count, kind, j, sample_rate, centres),
+        };
+    }
+    refuse(answer)
+}
+
+// A voice of an image: of one channel of its table, or of the blend of its channels.
+pub fn make(kind: Kind, image: &[u8], sample_rate: f32, centres: &[f32]) -> MadeVoice
+    ensures { λ r. ⌜ madeOf r ≡ makeOf kind (now (image .entry)) «sample_rate» (now (centres .entry)) ⌝ }
+{
+    match for_voice(image, kind) {
+        DeskRead::Refused(e) => refuse(MakeAnswer::Refused(e)),
+        DeskRead::Desk(d) => {
+            let start = entries_start(image);
+            let count = start.count;
+            if 16 < count {
+                return refuse(MakeAnswer::TooLarge);
+            }
+            let views = views_of(image, Cursor { at: start.at }, count);
+            make_from(image, views, count, kind, d.bands, sample_rate, centres)
+        }
+    }
+}

@@ -1,0 +1,100 @@
+// Question 9: the values of each entry.
+ghost use mathlib.Core.Path.{_≡_};
+ghost use Prim.Native.Nat.{_≤_};
+ghost use mathlib.Core.Bool.{true};
+ghost use lib.Ieee.Scale.{finite};
+ghost use Rattle.wire.specs.Parse.{Refusal};
+ghost use Rattle.table.specs.View.{entryAt};
+ghost use Rattle.table.specs.Answer.{foundBits};
+ghost use Rattle.player.specs.Voice.{pitchOk, stretchOk};
+ghost use Rattle.making.specs.Making.{f32, all, sizesOk, presentFinite, valuesOk, askValues};
+ghost use Rattle.making.specs.Views.{viewed, formed, valuesThen};
+use table::Found;
+use table::entry::EntryView;
+use table::entry::coefficient;
+use table::entry::metadata_value;
+
+// All values are good, or the index of the first entry with a bad one.
+pub enum ValuesAnswer {
+    Good,
+    Bad(usize),
+}
+
+fn pitch_ok(f: f32) -> bool
+    ensures { λ r. ⌜ r ≡ pitchOk f ⌝ }
+{
+    if 0.0 < f {
+        return f <= 20000.0;
+    }
+    false
+}
+
+fn stretch_ok(x: f32) -> bool
+    ensures { λ r. ⌜ r ≡ stretchOk x ⌝ }
+{
+    if 0.0 <= x {
+        return x <= 4.0;
+    }
+    false
+}
+
+fn found_ok(f: Found) -> bool
+    ensures { λ r. ⌜ r ≡ presentFinite (foundBits f) ⌝ }
+{
+    match f {
+        Found::Bits(v) => float::is_finite(float::from_bits(v)),
+        Found::Nothing => true,
+    }
+}
+
+// Every coefficient is finite: row after row.
+fn coefficients_ok(s: &[u8], v: EntryView) -> bool
+    requires { ⌜ sizesOk (entryAt (now s) v) ≡ true ⌝ ∗ ⌜ formed (entryAt (now s) v) ≡ true ⌝ }
+    ensures { λ r. ⌜ r ≡ all (λ b. finite (f32 b)) (entryAt (now (s .entry)) v .coefficients) ⌝ }
+{
+    let width = v.m_partials + v.j_noise;
+    let n = v.coefficients;
+    let mut x: u32 = 0;
+    while x < n {
+        if !float::is_finite(float::from_bits(coefficient(s, v, x / width, x % width))) {
+            return false;
+        }
+        x += 1;
+    }
+    true
+}
+
+fn values_ok(s: &[u8], v: EntryView) -> bool
+    requires { ⌜ sizesOk (entryAt (now s) v) ≡ true ⌝ ∗ ⌜ formed (entryAt (now s) v) ≡ true ⌝ }
+    ensures { λ r. ⌜ r ≡ valuesOk (entryAt (now (s .entry)) v) ⌝ }
+{
+    if !pitch_ok(float::from_bits(v.f0_hz)) {
+        return false;
+    }
+    if !stretch_ok(float::from_bits(v.stretch)) {
+        return false;
+    }
+    if !coefficients_ok(s, v) {
+        return false;
+    }
+    if !found_ok(metadata_value(s, v, b"mainlobe_gain")) {
+        return false;
+    }
+    found_ok(metadata_value(s, v, b"noise_gain"))
+}
+
+// The first entry with a bad value.
+pub fn first_bad(s: &[u8], views: [EntryView; 16], count: usize) -> ValuesAnswer
+    requires { ⌜ count ≤ 16 ⌝ ∗ ⌜ all sizesOk (viewed (now s) views count) ≡ true ⌝ ∗ ⌜ all formed (viewed (now s) views count) ≡ true ⌝ }
+    ensures { λ r. ⌜ ((rest : Refusal) → valuesThen r rest ≡ askValues 0 (viewed (now (s .entry)) views count) rest) ⌝ }
+{
+    let mut i = 0;
+    while i < count {
+        let v = views[i];
+        if !values_ok(s, v) {
+            return ValuesAnswer::Bad(i);
+        }
+        i += 1;
+    }
+    ValuesAnswer::Good
+}

@@ -1,0 +1,67 @@
+-- `silence` meets its contract.
+use mathlib.Core.Path.{_≡_, refl}
+use mathlib.Core.List.{_++_}
+use Prim.Native.Nat.{_-_, _≤_}
+use native.Mathlib.Omega.{arith}
+use lib.ListN.{length, drop, length-set}
+use lib.Ieee.{ofBits, round}
+use Rattle.player.specs.F32.{nearest}
+use Rattle.player.specs.Lists.{upTo}
+use Rattle.player.proofs.Loops.{upTo-again, upTo-full}
+use borrow.Author.Needs.{needs}
+use Rattle.player.proofs.channel.silence.Statement.{statement}
+use Rattle.player.proofs.channel.silence.Tie as tie
+
+abbrev Inv-loop : tie.InvT-loop
+Inv-loop samples out₀ i₀ out i = (i ≤ samples) × (length out ≡ samples) × (out ≡ upTo (λ i. nearest 0 1) i ++ drop i out₀)
+
+abbrev μ-loop : tie.MeasureT-loop
+μ-loop samples out₀ i₀ out i = samples - i
+
+loop-holds : tie.Need-loop-holds Inv-loop μ-loop
+unfolding upTo
+loop-holds c =
+    (omega arith, c .pre, refl)
+
+mul-out : tie.Need-mul-out Inv-loop μ-loop
+mul-out c = search needs
+
+slice-write-out : tie.Need-slice-write-out Inv-loop μ-loop
+slice-write-out c = search needs
+
+add-i : tie.Need-add-i Inv-loop μ-loop
+add-i c = search needs
+
+loop-less : tie.Need-loop-less Inv-loop μ-loop
+loop-less c = search needs
+
+loop-again : tie.Need-loop-again Inv-loop μ-loop
+unfolding ofBits round
+loop-again c =
+    let b1 = c .before in
+    let b2 = b1 .before in
+    (omega arith, simp length-set (b1 .loop .inv .1), upTo-again (λ i. nearest 0 1) (b1 .loop .i) (b2 .args .out .now) (b1 .loop .out) (omega arith) (b1 .loop .inv .2))
+
+same-length : tie.Need-same-length Inv-loop μ-loop
+same-length c = search needs
+
+returns : tie.Need-returns Inv-loop μ-loop
+returns c =
+    let b1 = c .before in
+    let b2 = b1 .before in
+    upTo-full (λ i. nearest 0 1) (b1 .loop .i) (b2 .args .samples) (b2 .args .out .now) (b1 .loop .out) (omega arith) (b2 .pre) (b1 .loop .inv .2)
+
+pub silence-spec : {M : Type 1} → statement M
+silence-spec =
+    tie.close
+    (tie.spec
+    Inv-loop
+    μ-loop
+    loop-holds
+    mul-out
+    slice-write-out
+    add-i
+    loop-less
+    loop-again
+    same-length
+    returns)

@@ -1,0 +1,44 @@
+// What a frequency decides of a sample: the sides, and the values between them.
+ghost use mathlib.Core.Path.{_≡_};
+ghost use mathlib.Core.Bool.{true};
+ghost use Prim.Native.Nat.{_≤_};
+ghost use lib.ListN.{getD};
+ghost use lib.Ieee.{nan};
+ghost use Rattle.float.specs.Range.{Within};
+ghost use Rattle.player.specs.Lists.{every};
+ghost use Rattle.player.specs.Voice.{pitchOk, stretchOk};
+ghost use Rattle.player.specs.Bracket.{bracketOf, sidesOf, SidesIn, between};
+use crate::bracket::Sides;
+use crate::bracket::sides_at;
+use crate::bracket::value_between;
+use crate::stretch::stretch_between;
+
+pub struct Pitch {
+    pub f0: f32,
+    pub s: Sides,
+    pub stretch: f32,
+    pub mainlobe: f32,
+    pub noise_gain: f32,
+}
+
+pub fn pitch_at<'a>(
+    f0_hz: &'a [f32; 16],
+    stretch: &'a [f32; 16],
+    mainlobe_gain: &'a [f32; 16],
+    noise_gain: &'a [f32; 16],
+    count: usize,
+    f0: f32,
+) -> Pitch
+    requires { ⌜ (1 ≤ count) × (count ≤ 16) × (every (λ i. pitchOk (getD (now «f0_hz») i nan)) count ≡ true) × (every (λ i. stretchOk (getD (now stretch) i nan)) count ≡ true) × Within 20000 1 f0 ⌝ }
+    ensures { λ r. ⌜ (r .f0 ≡ f0) × (r .s ≡ sidesOf (bracketOf (now («f0_hz» .entry)) count f0)) × (r .stretch ≡ between (now (stretch .entry)) (r .s)) × (r .mainlobe ≡ between (now («mainlobe_gain» .entry)) (r .s)) × (r .«noise_gain» ≡ between (now («noise_gain» .entry)) (r .s)) ⌝ }
+    ensures { λ r. ⌜ SidesIn 16 (r .s) × Within 8 1 (r .stretch) ⌝ }
+{
+    let s = sides_at(f0_hz, count, f0);
+    Pitch {
+        f0,
+        s,
+        stretch: stretch_between(stretch, s),
+        mainlobe: value_between(mainlobe_gain, s),
+        noise_gain: value_between(noise_gain, s),
+    }
+}

@@ -1,0 +1,56 @@
+// Reset and reseed, with question 13.
+ghost use mathlib.Core.Path.{_≡_};
+ghost use Rattle.player.specs.Play.{outcomeOf, resetOf, reseedOf};
+use crate::answer::PlayAnswer;
+use crate::answer::Played;
+use crate::filters::BiquadState;
+use crate::rng::Rng;
+use crate::rules::keeps_rules;
+use crate::voice::State;
+use crate::voice::Voice;
+
+// The state that a fresh voice has.
+pub fn reset(mut voice: Voice) -> Played
+    ensures { λ r. ⌜ outcomeOf r ≡ resetOf voice ⌝ }
+{
+    if !keeps_rules(voice) {
+        return Played {
+            answer: PlayAnswer::BadVoice,
+            voice,
+        };
+    }
+    let state = State {
+        phases: [0.0; 32],
+        memories: [BiquadState { z1: 0.0, z2: 0.0 }; 16],
+        rng: Rng::default(),
+    };
+    voice.state = state;
+    Played {
+        answer: PlayAnswer::Done,
+        voice,
+    }
+}
+
+// The noise starts anew from the seed. The phases go on.
+pub fn reseed(mut voice: Voice, seed: u32) -> Played
+    ensures { λ r. ⌜ outcomeOf r ≡ reseedOf voice seed ⌝ }
+{
+    if !keeps_rules(voice) {
+        return Played {
+            answer: PlayAnswer::BadVoice,
+            voice,
+        };
+    }
+    let old = voice.state;
+    let phases = old.phases;
+    let state = State {
+        phases,
+        memories: [BiquadState { z1: 0.0, z2: 0.0 }; 16],
+        rng: Rng::new(seed),
+    };
+    voice.state = state;
+    Played {
+        answer: PlayAnswer::Done,
+        voice,
+    }
+}
