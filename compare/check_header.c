@@ -1,4 +1,4 @@
-/* include/sounder.h against the library: sizes and offsets, a read, a refusal, a rewriting. */
+/* include/sounder.h against the library: sizes and offsets, a read, a refusal, a rewriting, a making, a block. */
 #include "../include/sounder.h"
 #include <stdio.h>
 #include <string.h>
@@ -8,6 +8,16 @@ _Static_assert(offsetof(struct sounder_answer, first) == 8, "answer");
 _Static_assert(sizeof(struct sounder_place) == 16, "place");
 _Static_assert(sizeof(struct sounder_desk_answer) == 40, "desk answer");
 _Static_assert(offsetof(struct sounder_desk_answer, bands) == 24, "desk answer");
+
+_Static_assert(sizeof(struct sounder_voice) == 13368, "voice");
+_Static_assert(offsetof(struct sounder_voice, live) == 48, "voice");
+_Static_assert(offsetof(struct sounder_voice, partials) == 436, "voice");
+_Static_assert(offsetof(struct sounder_voice, bands) == 12724, "voice");
+_Static_assert(offsetof(struct sounder_voice, state) == 13108, "voice");
+_Static_assert(sizeof(struct sounder_made_answer) == 24 + 13368, "made answer");
+_Static_assert(offsetof(struct sounder_played_answer, voice) == 8, "played answer");
+_Static_assert(sizeof(struct sounder_played_answer) == 8 + 13368, "played answer");
+_Static_assert(sizeof(struct sounder_noise_power) == 8, "noise power");
 
 static int failures;
 
@@ -51,6 +61,27 @@ int main(void)
     whole[4] = 1;
     whole[end] = 0x55;
     expect(memcmp(target, whole, n) == 0, "the rewritten image");
+    const float centres[] = {200, 400, 800};
+    struct sounder_made_answer made = sounder_make(0, 0, image, n, 48000, centres, 3);
+    expect(is(made.answer, 0, 0, 0), "a making");
+    expect(made.voice.count == 1 && made.voice.j == 3 && made.voice.live_count == 3 && made.voice.f0_hz[0] == 220, "a voice");
+    expect(made.voice.state.noise == 0x9A271E56u, "the default seed");
+    struct sounder_made_answer none = sounder_make(0, 0, image, n, 48000, centres, 2);
+    expect(is(none.answer, 12, 0, 0) && none.voice.count == 0, "a refused making");
+    float out[4] = {7, 7, 7, 7};
+    const float freq[] = {220, 220}, high[] = {220, 20001};
+    struct sounder_played_answer played = sounder_play(made.voice, 2, 1, high, 2, 0, freq, 0, 0, freq, 0, 0, freq, 0, 0, freq, 0, 2, out, 4);
+    expect(played.number == 16 && memcmp(&played.voice, &made.voice, sizeof made.voice) == 0 && out[0] == 7 && out[3] == 7, "a refused block");
+    played = sounder_play(made.voice, 2, 1, freq, 2, 0, freq, 0, 0, freq, 0, 0, freq, 0, 0, freq, 0, 2, out, 4);
+    expect(played.number == 0 && out[0] == 0 && out[3] == 0, "a block of an entry whose coefficients are 0");
+    expect(played.voice.state.noise != made.voice.state.noise && played.voice.state.memories[0].z1 != 0, "a block moves the voice");
+    played = sounder_reseed(played.voice, 0);
+    expect(played.number == 0 && played.voice.state.noise == 1 && played.voice.state.memories[0].z1 == 0, "a reseed");
+    played = sounder_reset(played.voice);
+    expect(played.number == 0 && memcmp(&played.voice, &made.voice, sizeof made.voice) == 0, "a reset");
+    played.voice.count = 17;
+    expect(sounder_reset(played.voice).number == 13, "a voice that breaks a rule");
+    expect(sounder_noise_power_gain(200, 1, 48000, made.voice.bands[0]).n == 1909, "a ring count");
     if (failures) {
         return 1;
     }

@@ -1,6 +1,7 @@
-/* The crossing sounder for C: images of coefficient tables, read and rewritten.
+/* The crossing sounder for C: images of coefficient tables, read and rewritten, and voices, made and played.
  *
- * Every function answers for every argument; none allocates, and none writes but to the target that it is lent.
+ * Every function answers for every argument; none allocates, and none writes but to the target or
+ * the output that it is lent. Voices go in and out by value.
  * A slice is a pointer and a length in elements. A pointer may not be null, also where its length is 0. */
 #ifndef SOUNDER_H
 #define SOUNDER_H
@@ -21,6 +22,15 @@ extern "C" {
  *   5 a string is not UTF-8
  *   6 an entry's coefficient count is not k * (M + j)  first: the entry's index
  *   7 the noise-band spans do not agree                first: the entry they go by, second: the entry that breaks the rule
+ *   8 more than 16 entries, 32 partials or 16 bands
+ *   9 a pitch, stretch, coefficient or gain            first: the entry's index
+ *  10 no entry has the channel
+ *  11 the sample rate is not 8,000 to 192,000
+ *  12 the centres are not as many as the bands, or not all finite
+ *  13 the voice breaks the voice rules
+ *  14 the output is not a block of 0 to 128 samples by 1 to 8 channels, or not samples * channels long
+ *  15 a connected input is not 1 to 8 channels of the block's length, or its slice is not that long
+ *  16 a finite frequency is above 20,000
  *  17 the target does not hold the rewritten image */
 struct sounder_answer {
     uint32_t number;
@@ -42,6 +52,61 @@ struct sounder_desk_answer {
     uint32_t max_hz;
 };
 
+struct sounder_biquad_coeffs {
+    float b0, b1, b2, a1, a2;
+};
+
+struct sounder_biquad_state {
+    float z1, z2;
+};
+
+/* The running state: phases, two memories for each band, and the noise number. */
+struct sounder_state {
+    float phases[32];
+    struct sounder_biquad_state memories[16];
+    uint32_t noise;
+};
+
+/* A voice: everything that a tone is made of. Places that are not in use are 0 in a fresh voice and stay as given. */
+struct sounder_voice {
+    uint32_t blend;   /* 0: a single voice of the channel below; else a blend */
+    uint32_t channel; /* a single voice's channel of the table */
+    size_t count;     /* entries */
+    size_t k;         /* channels that are blended; 1 of a single voice */
+    size_t m;         /* phases */
+    size_t j;         /* bands */
+    size_t live_count; /* live bands, and which they are */
+    size_t live[16];
+    float sample_rate;
+    float f0_hz[16]; /* pitches, ascending */
+    float stretch[16];
+    float mainlobe_gain[16];
+    float noise_gain[16];
+    float partials[2048]; /* entry * 128 + channel * 32 + partial */
+    float noise[1024];    /* entry * 64 + channel * 16 + band */
+    struct sounder_biquad_coeffs bands[16];
+    float compensation[16];
+    struct sounder_state state;
+};
+
+/* The voice is all zero where the making is refused. */
+struct sounder_made_answer {
+    struct sounder_answer answer;
+    struct sounder_voice voice;
+};
+
+/* A refusal returns the voice as given, and changes no sample of the output. */
+struct sounder_played_answer {
+    uint32_t number;
+    struct sounder_voice voice;
+};
+
+/* The power that white noise has after a band, and how many times the band was rung for it. */
+struct sounder_noise_power {
+    float power;
+    uint32_t n;
+};
+
 /* Reads an image. Accepted: first is the entry count, second the end of the last entry. */
 struct sounder_answer sounder_from_bytes(const uint8_t *image, size_t image_len);
 
@@ -54,6 +119,26 @@ struct sounder_desk_answer sounder_desk(uint32_t kind, uint32_t channel, const u
 /* Rewrites an image as version 1, with nothing after the last entry. Accepted: first is the entry count, second the bytes written.
  * The target's bytes beyond stay; a refusal changes none. */
 struct sounder_answer sounder_to_bytes(const uint8_t *image, size_t image_len, uint8_t *target, size_t target_len);
+
+/* Makes a voice: kind 0 is a single voice of the channel, any other kind a blend. The centres are the bands' centre frequencies, as many
+ * as sounder_desk answers. */
+struct sounder_made_answer sounder_make(uint32_t kind, uint32_t channel, const uint8_t *image, size_t image_len, float sample_rate,
+                                        const float *centres, size_t centres_len);
+
+/* Plays a block: channel after channel in one slice of samples * channels floats. An input is a number of channels, 0 for unconnected (the frequency
+ * is then 220, gain 0 is 1, the others 0), and its slice; output channel n reads input channel n modulo the input's channels. */
+struct sounder_played_answer sounder_play(struct sounder_voice voice, size_t samples, size_t freq_channels, const float *freq, size_t freq_len,
+                                          size_t g0_channels, const float *g0, size_t g0_len, size_t g1_channels, const float *g1, size_t g1_len,
+                                          size_t g2_channels, const float *g2, size_t g2_len, size_t g3_channels, const float *g3, size_t g3_len,
+                                          size_t channels, float *out, size_t out_len);
+
+/* Phases and memories 0, and the default seed. */
+struct sounder_played_answer sounder_reset(struct sounder_voice voice);
+
+/* The seed is taken, the memories are 0, the phases kept. */
+struct sounder_played_answer sounder_reseed(struct sounder_voice voice, uint32_t seed);
+
+struct sounder_noise_power sounder_noise_power_gain(float freq, float q, float sample_rate, struct sounder_biquad_coeffs coeffs);
 
 #ifdef __cplusplus
 }

@@ -2,8 +2,11 @@
 // A slice crosses as a pointer and a length, a struct by value. include/sounder.h declares the same for C.
 mod answer;
 mod kind;
+pub mod player_door;
 pub mod table_door;
 
 pub use answer::Answer;
+pub use player_door::MadeAnswer;
+pub use player_door::PlayedAnswer;
 pub use table_door::DeskAnswer;
 pub use table_door::Place;
