@@ -27,4 +27,4 @@ Claim =
     → CallsF32 calls
     → makeOf kind image rate centres .refusal .number ≡ 0
     → let v = run (makeOf kind image rate centres .voice) calls in
-      PhasesIn v × (running v ≡ machine (plainOf kind image rate centres) (fed calls)) × (keepsRules v ≡ true)
+    PhasesIn v × (running v ≡ machine (plainOf kind image rate centres) (fed calls)) × (keepsRules v ≡ true)

@@ -6,9 +6,9 @@ ghost use Rattle.player.specs.Band.{bandCompensation, bandAt};
 ghost use Rattle.player.specs.declared.band.Band.{Band};
 use crate::compensation::biquad_noise_power_gain;
 use crate::compensation::noise_power_compensation;
+use crate::filters::BiquadCoeffs;
 use crate::filters::band_center;
 use crate::filters::noise_band;
-use crate::filters::BiquadCoeffs;
 use crate::wave::table;
 
 #[repr(C)]

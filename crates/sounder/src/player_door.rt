@@ -11,14 +11,14 @@ ghost use Rattle.sounder.specs.Player.{madeAnswer, playedAnswer, inputOf
 use crate::answer::Answer;
 use crate::answer::refused;
 use crate::kind::kind_of;
+use making::MakeAnswer;
+use making::make;
 use player::BiquadCoeffs;
 use player::Input;
-use making::MakeAnswer;
 use player::NoisePower;
 use player::PlayAnswer;
 use player::Voice;
 use player::biquad_noise_power_gain;
-use making::make;
 use player::play;
 use player::reseed;
 use player::reset;
