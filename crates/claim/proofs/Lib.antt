@@ -5,3 +5,4 @@ pub mod Front
 pub mod Bands
 pub mod Moves
 pub mod Theorem
+pub mod Examples

@@ -1,3 +1,4 @@
 pub mod Machine
 pub mod Calls
 pub mod Claim
+pub mod Bench
