@@ -1,0 +1,245 @@
+// Runs at the limits: each line is what was asked, and the number of the answer (0: accepted). The expected lines in `stdout` are document 01's.
+mod images;
+
+use player::Voice;
+use sounder::player_door::sounder_make;
+use sounder::player_door::sounder_play;
+
+fn say(what: &[u8], number: u32) {
+    io::write_all(1, what);
+    io::write_all(1, b": ");
+    io::print_decimal(1, number as u64);
+    io::write_all(1, b"\n");
+}
+
+// A making of a single voice of a channel.
+fn made(what: &[u8], image: &[u8], channel: u32, rate: f32, centres: &[f32]) -> Voice {
+    let m = sounder_make(0, channel, image, rate, centres);
+    let a = m.answer;
+    say(what, a.number);
+    m.voice
+}
+
+// A play with a frequency input and gain 0, and what stands in the first sample: 0, a number, or no number.
+fn played(
+    what: &[u8],
+    voice: Voice,
+    samples: usize,
+    freq_channels: usize,
+    freq: &[f32],
+    gain_channels: usize,
+    gain: &[f32],
+    channels: usize,
+    out: &mut [f32],
+) {
+    let g1: [f32; 1] = [0.0; 1];
+    let g2: [f32; 1] = [0.0; 1];
+    let g3: [f32; 1] = [0.0; 1];
+    let p = sounder_play(
+        voice,
+        samples,
+        freq_channels,
+        freq,
+        gain_channels,
+        gain,
+        0,
+        &g1[..0],
+        0,
+        &g2[..0],
+        0,
+        &g3[..0],
+        channels,
+        out,
+    );
+    say(what, p.number);
+    if 0 < out.len() {
+        let y = out[0];
+        if y != y {
+            io::write_all(1, b"  the first sample is no number\n");
+        } else {
+            if y == 0.0 {
+                io::write_all(1, b"  the first sample is 0\n");
+            }
+        }
+    }
+}
+
+fn makings() {
+    let one: [f32; 1] = [440.0; 1];
+    let sixteen = images::SIXTEEN;
+    let seventeen = images::SEVENTEEN;
+    let wide = images::WIDE;
+    let flat = images::FLAT;
+    let empty = images::EMPTY;
+    made(b"16 entries", &sixteen, 0, 48000.0, &one[..0]);
+    made(b"17 entries", &seventeen, 0, 48000.0, &one[..0]);
+    made(b"33 partials", &wide, 0, 48000.0, &one[..0]);
+    made(b"a pitch of 0", &flat, 0, 48000.0, &one[..0]);
+    made(b"channel 1 of one channel", &sixteen, 1, 48000.0, &one[..0]);
+    made(
+        b"channel 1 of an empty table",
+        &empty,
+        1,
+        48000.0,
+        &one[..0],
+    );
+    made(b"rate 7999", &sixteen, 0, 7999.0, &one[..0]);
+    made(b"rate 8000", &sixteen, 0, 8000.0, &one[..0]);
+    made(b"rate 192000", &sixteen, 0, 192000.0, &one[..0]);
+    made(
+        b"a rate that is no number",
+        &sixteen,
+        0,
+        0.0 / 0.0,
+        &one[..0],
+    );
+    made(b"a centre too many", &sixteen, 0, 48000.0, &one);
+}
+
+// A play into a slice of `len` samples that hold 9.
+fn in_block(
+    what: &[u8],
+    voice: Voice,
+    samples: usize,
+    freq_channels: usize,
+    freq: &[f32],
+    gain_channels: usize,
+    gain: &[f32],
+    channels: usize,
+    len: usize,
+) {
+    let mut out: [f32; 1161] = [9.0; 1161];
+    if len <= 1161 {
+        played(
+            what,
+            voice,
+            samples,
+            freq_channels,
+            freq,
+            gain_channels,
+            gain,
+            channels,
+            &mut out[..len],
+        );
+    }
+}
+
+fn blocks() {
+    let sixteen = images::SIXTEEN;
+    let f: [f32; 16] = [220.0; 16];
+    let g: [f32; 16] = [1.0; 16];
+    let v = made(b"a voice", &sixteen, 0, 48000.0, &f[..0]);
+    in_block(b"128 samples", v, 128, 0, &f[..0], 0, &g[..0], 1, 128);
+    in_block(b"129 samples", v, 129, 0, &f[..0], 0, &g[..0], 1, 129);
+    in_block(b"8 channels", v, 128, 0, &f[..0], 0, &g[..0], 8, 1024);
+    in_block(b"9 channels", v, 128, 0, &f[..0], 0, &g[..0], 9, 1152);
+    in_block(b"0 channels", v, 0, 0, &f[..0], 0, &g[..0], 0, 0);
+    in_block(b"0 samples", v, 0, 0, &f[..0], 0, &g[..0], 1, 0);
+    in_block(b"a slice too long", v, 8, 0, &f[..0], 0, &g[..0], 1, 9);
+    in_block(b"an input too long", v, 8, 1, &f[..9], 0, &g[..0], 1, 8);
+    in_block(b"a gain too short", v, 8, 0, &f[..0], 2, &g[..15], 1, 8);
+    in_block(b"a gain of 9 channels", v, 1, 0, &f[..0], 9, &g[..9], 1, 1);
+    let mut broken = v;
+    broken.m = 33;
+    in_block(
+        b"a voice of 33 phases",
+        broken,
+        8,
+        0,
+        &f[..0],
+        0,
+        &g[..0],
+        1,
+        8,
+    );
+}
+
+fn floats() {
+    let sixteen = images::SIXTEEN;
+    let none: [f32; 1] = [0.0; 1];
+    let v = made(b"a voice", &sixteen, 0, 48000.0, &none[..0]);
+    let top: [f32; 1] = [20000.0; 1];
+    let above: [f32; 1] = [20000.001953125; 1];
+    let no_number: [f32; 1] = [0.0 / 0.0; 1];
+    let infinite: [f32; 1] = [1.0 / 0.0; 1];
+    let negative: [f32; 1] = [-220.0; 1];
+    let mut out: [f32; 1] = [9.0; 1];
+    played(b"20000 Hz", v, 1, 1, &top, 0, &none[..0], 1, &mut out);
+    out[0] = 9.0;
+    played(
+        b"the float after 20000",
+        v,
+        1,
+        1,
+        &above,
+        0,
+        &none[..0],
+        1,
+        &mut out,
+    );
+    played(
+        b"a frequency that is no number",
+        v,
+        1,
+        1,
+        &no_number,
+        0,
+        &none[..0],
+        1,
+        &mut out,
+    );
+    out[0] = 9.0;
+    played(
+        b"an infinite frequency",
+        v,
+        1,
+        1,
+        &infinite,
+        0,
+        &none[..0],
+        1,
+        &mut out,
+    );
+    out[0] = 9.0;
+    played(
+        b"a negative frequency",
+        v,
+        1,
+        1,
+        &negative,
+        0,
+        &none[..0],
+        1,
+        &mut out,
+    );
+    out[0] = 9.0;
+    played(
+        b"a gain that is no number",
+        v,
+        1,
+        0,
+        &none[..0],
+        1,
+        &no_number,
+        1,
+        &mut out,
+    );
+    out[0] = 9.0;
+    played(
+        b"an infinite gain on silence",
+        v,
+        1,
+        1,
+        &negative,
+        1,
+        &infinite,
+        1,
+        &mut out,
+    );
+}
+
+fn main() {
+    makings();
+    blocks();
+    floats();
+}
