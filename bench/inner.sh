@@ -7,13 +7,13 @@ root=$(pwd)
 work=target/bench-inner
 rm -rf "$work"
 mkdir -p "$work/crates/probe/src"
-for c in float wire table player; do
+for c in float wire player; do
     mkdir -p "$work/crates/$c"
     cp -r "crates/$c/src" "crates/$c/specs" "crates/$c/proofs" "$work/crates/$c/"
 done
 sed -i 's/^mod /pub mod /' "$work/crates/player/src/lib.rt"
 cp bench/probe.rt.txt "$work/crates/probe/src/lib.rt"
-{ grep -E '^(float|wire|table|player):' crates.txt; echo 'probe: player float table wire'; } > "$work/crates.txt"
+{ grep -E '^(float|wire|player):' crates.txt; echo 'probe: player float wire'; } > "$work/crates.txt"
 (cd "$work" && rt staticlib probe > build.log 2>&1) || { tail -5 "$work/build.log"; exit 1; }
 rustc -O --edition 2021 -o "$work/inner" bench/inner.rs -L "$work/target/staticlib" -l static=probe
 "$work/inner"
