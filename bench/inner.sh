@@ -3,7 +3,6 @@
 # The player's modules are private, so a copy of the crates under target/ is built with them open.
 set -eu
 cd "$(dirname "$0")/.."
-root=$(pwd)
 work=target/bench-inner
 rm -rf "$work"
 mkdir -p "$work/crates/probe/src"

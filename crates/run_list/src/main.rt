@@ -154,88 +154,33 @@ fn blocks() {
     );
 }
 
+// One sample at a frequency, at gain 1.
+fn at_frequency(what: &[u8], voice: Voice, f: f32) {
+    let freq: [f32; 1] = [f; 1];
+    let none: [f32; 1] = [0.0; 1];
+    in_block(what, voice, 1, 1, &freq, 0, &none[..0], 1, 1);
+}
+
+// One sample at a frequency and a gain.
+fn at_gain(what: &[u8], voice: Voice, f: f32, g: f32) {
+    let freq: [f32; 1] = [f; 1];
+    let gain: [f32; 1] = [g; 1];
+    in_block(what, voice, 1, 1, &freq, 1, &gain, 1, 1);
+}
+
 fn floats() {
     let sixteen = images::SIXTEEN;
     let none: [f32; 1] = [0.0; 1];
     let v = made(b"a voice", &sixteen, 0, 48000.0, &none[..0]);
-    let top: [f32; 1] = [20000.0; 1];
-    let above: [f32; 1] = [20000.001953125; 1];
-    let no_number: [f32; 1] = [0.0 / 0.0; 1];
-    let infinite: [f32; 1] = [1.0 / 0.0; 1];
-    let negative: [f32; 1] = [-220.0; 1];
-    let mut out: [f32; 1] = [9.0; 1];
-    played(b"20000 Hz", v, 1, 1, &top, 0, &none[..0], 1, &mut out);
-    out[0] = 9.0;
-    played(
-        b"the float after 20000",
-        v,
-        1,
-        1,
-        &above,
-        0,
-        &none[..0],
-        1,
-        &mut out,
-    );
-    played(
-        b"a frequency that is no number",
-        v,
-        1,
-        1,
-        &no_number,
-        0,
-        &none[..0],
-        1,
-        &mut out,
-    );
-    out[0] = 9.0;
-    played(
-        b"an infinite frequency",
-        v,
-        1,
-        1,
-        &infinite,
-        0,
-        &none[..0],
-        1,
-        &mut out,
-    );
-    out[0] = 9.0;
-    played(
-        b"a negative frequency",
-        v,
-        1,
-        1,
-        &negative,
-        0,
-        &none[..0],
-        1,
-        &mut out,
-    );
-    out[0] = 9.0;
-    played(
-        b"a gain that is no number",
-        v,
-        1,
-        0,
-        &none[..0],
-        1,
-        &no_number,
-        1,
-        &mut out,
-    );
-    out[0] = 9.0;
-    played(
-        b"an infinite gain on silence",
-        v,
-        1,
-        1,
-        &negative,
-        1,
-        &infinite,
-        1,
-        &mut out,
-    );
+    let no_number = 0.0f32 / 0.0;
+    let infinite = 1.0f32 / 0.0;
+    at_frequency(b"20000 Hz", v, 20000.0);
+    at_frequency(b"the float after 20000", v, 20000.001953125);
+    at_frequency(b"a frequency that is no number", v, no_number);
+    at_frequency(b"an infinite frequency", v, infinite);
+    at_frequency(b"a negative frequency", v, -220.0);
+    at_gain(b"a gain that is no number", v, 220.0, no_number);
+    at_gain(b"an infinite gain on silence", v, -220.0, infinite);
 }
 
 fn main() {
