@@ -15,5 +15,4 @@ pub mod RangeLaws
 pub mod QuestionLaws
 pub mod BracketLaws
 pub mod SoundLaws
-pub mod MovedLaws
 pub mod Bench
