@@ -1,20 +1,16 @@
 -- Laws of the lists and tests that a counting loop builds, and of lists made longer. Assumes nothing.
 use mathlib.Core.Path.{_≡_, refl, ap, sym, _∙_}
-use mathlib.Core.List.{List, [], _∷_}
-use mathlib.Core.Logic.{⊎-elim}
-use mathlib.Core.Bool.{Bool, true, false, _&&_}
-use Prim.Native.Nat.{ℕ, zero, suc, _+_, _-_, _≤_, _<_}
-use native.Mathlib.Nat.{eq-or-lt-of-le, add-zero, add-suc, suc-add, zero-add}
+use mathlib.Core.List.{List, _∷_}
+use mathlib.Core.Bool.{Bool, true, _&&_}
+use Prim.Native.Nat.{ℕ, zero, suc, _-_, _≤_, _<_}
+use native.Mathlib.Nat.{zero-add}
 use native.Mathlib.Omega.{arith}
 use lib.ListN.{length, take, getD, set, replicate, List·getD-append}
 use lib.Seq.{set-getD}
-use Rattle.player.specs.Lists.{mapTo, steps, every, padded}
+use Rattle.player.specs.Lists.{mapTo, padded}
+use Rattle.player.proofs.Loops.{both-true, getD-mapTo, mapTo-suc}
 
-pub both-true : (a b : Bool) → a && b ≡ true → (a ≡ true) × (b ≡ true)
-both-true true b h = (refl, h)
-both-true false b h = let z : _≡_ {A = ℕ} 0 1 = cc in absurd (omega arith)
-
--- five tests, and three
+-- five tests
 pub record Five (a b c d e : Bool) : Type 0 where
   pub is1 : a ≡ true
   pub is2 : b ≡ true
@@ -33,36 +29,10 @@ five-true a b c d e h =
 pub true-five : (a b c d e : Bool) → Five a b c d e → a && (b && (c && (d && e))) ≡ true
 true-five a b c d e h = rw (h .is1, h .is2, h .is3, h .is4, h .is5)
 
--- a test over the first n indices, and each of its answers
-pub every-each : (test : ℕ → Bool) (n i : ℕ) → every test n ≡ true → i < n → test i ≡ true
-unfolding steps
-every-each test zero i h l = absurd (omega arith)
-every-each test (suc n) i h l =
-    let p = both-true _ _ h in
-    ⊎-elim (λ (q : i ≡ n). rw q (p .1)) (λ (q : i < n). every-each test n i (p .0) q) (eq-or-lt-of-le (omega arith))
-
-pub each-every : (test : ℕ → Bool) (n : ℕ) → ((i : ℕ) → i < n → test i ≡ true) → every test n ≡ true
-unfolding steps
-each-every test zero h = refl
-each-every test (suc n) h = rw (each-every test n (λ i l. h i (omega arith)), h n (omega arith))
-
 module _ {A : Type 0} (f : ℕ → A → A) (d : A) where
-  pub getD-mapTo : (k n : ℕ) (l : List A) → getD (mapTo f k n l) n d ≡ getD l n d
-  unfolding mapTo
-  getD-mapTo k zero l = refl
-  getD-mapTo k (suc n) [] = refl
-  getD-mapTo k (suc n) (x ∷ l) = getD-mapTo (suc k) n l
-
-  pub mapTo-suc : (k n : ℕ) (l : List A) → set (mapTo f k n l) n (f (k + n) (getD l n d)) ≡ mapTo f k (suc n) l
-  unfolding mapTo
-  mapTo-suc k zero [] = refl
-  mapTo-suc k (suc n) [] = refl
-  mapTo-suc k zero (x ∷ l) = rw add-zero
-  mapTo-suc k (suc n) (x ∷ l) = rw (add-suc k n, ← suc-add k n) (ap (λ t. f k x ∷ t) (mapTo-suc (suc k) n l))
-
   -- one element more is mapped, or stays as it is
   pub mapTo-next : (n : ℕ) (l ls : List A) → ls ≡ mapTo f 0 n l → set ls n (f n (getD ls n d)) ≡ mapTo f 0 (suc n) l
-  mapTo-next n l ls e = rw (e, getD-mapTo 0 n l, ← mapTo-suc 0 n l, zero-add n)
+  mapTo-next n l ls e = rw (e, getD-mapTo f d 0 n l, ← mapTo-suc f d 0 n l, zero-add n)
 
   pub mapTo-stays : (n : ℕ) (l ls : List A) → ((x : A) → f n x ≡ x) → ls ≡ mapTo f 0 n l → ls ≡ mapTo f 0 (suc n) l
   mapTo-stays n l ls h e = sym (set-getD ls n d) ∙ ap (λ t. set ls n t) (sym (h (getD ls n d))) ∙ mapTo-next n l ls e

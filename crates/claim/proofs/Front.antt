@@ -7,7 +7,8 @@ use lib.ListN.{length, List·getD-append}
 use lib.Ieee.{Float, nan}
 use Rattle.player.specs.Bracket.{notAbove, neighbours, bracketOf, sidesOf, SidesIn, between}
 use Rattle.player.specs.declared.bracket.Sides.{Sides}
-use Rattle.claim.proofs.Sides.{sides-in, notAbove-le}
+use Rattle.player.proofs.BracketLaws.{notAbove-in}
+use Rattle.claim.proofs.Sides.{sides-in}
 
 module _ (l r : List Float) (f0 : Float) where
   notAbove-front : (n : ℕ) → n ≤ length l → notAbove (l ++ r) f0 n ≡ notAbove l f0 n
@@ -28,7 +29,7 @@ module _ (l r : List Float) (f0 : Float) where
         List·getD-append l r nan 0 h,
         List·getD-append l r nan n (omega arith),
         notAbove-front n (omega arith),
-        neighbours-front (notAbove l f0 n) (omega (arith, notAbove-le l f0 n)),
+        neighbours-front (notAbove l f0 n) (omega (arith, notAbove-in l f0 n)),
       )
 
 between-front : (ss q : List Float) (s : Sides) → SidesIn (length ss) s → between (ss ++ q) s ≡ between ss s

@@ -34,7 +34,8 @@ use Rattle.player.proofs.Tests.{rate-is}
 use Rattle.player.proofs.RangeLaws.{advance-ok, phase-passes}
 use Rattle.player.proofs.SoundLaws.{cleaned-within}
 use Rattle.claim.specs.Calls.{Call, play, resetCall, reseed, after, run, AllF32, CallF32, CallsF32}
-use Rattle.claim.proofs.Folds.{both-true, Five, five-true, true-five, every-each, each-every}
+use Rattle.player.proofs.Loops.{both-true, every-at, at-every}
+use Rattle.claim.proofs.Folds.{Five, five-true, true-five}
 use Rattle.claim.proofs.Sides.{between-stretch}
 
 -- a cleaned frequency is an f32 value
@@ -75,8 +76,8 @@ rules-of v h =
     record {
       m-most = leb-true _ _ (c .is2);
       j-most = leb-true _ _ (c .is3);
-      pitches = λ i l. every-each p (v .count) i (e .0) l;
-      stretches = λ i l. every-each q (v .count) i (f .1) l;
+      pitches = λ i l. every-at p (v .count) i (e .0) l;
+      stretches = λ i l. every-at q (v .count) i (f .1) l;
       rate = rate-is (v .«sample_rate») (shown _ (r .0)) (shown _ (r .1));
     }
 
@@ -115,10 +116,10 @@ module _ (v : Voice) (R : Rules v) (W : VoiceF32 v) where
   movedPhases-ok : (f0 : Float) (ps : List Float) → 0 < v .count → Within 20000 1 f0 → T (fits binary32 f0) → phasesOk ps (v .m) ≡ true → phasesOk (movedPhases v f0 ps) (v .m) ≡ true
   unfolding movedPhases phasesOk
   movedPhases-ok f0 ps c F F32 h =
-      each-every (λ i. phaseOk (getD (movedPhases v f0 ps) i nan)) (v .m)
+      at-every (λ i. phaseOk (getD (movedPhases v f0 ps) i nan)) (v .m)
       (λ i l. ok-mapTo (λ i p. advanceOf p (stepAt v f0 i)) 0 (v .m) i ps l
       (λ p o. phase-passes _ (advance-ok p (stepAt v f0 (0 + i)) o (step-ok f0 (0 + i) c F F32 (omega arith))))
-      (every-each (λ i. phaseOk (getD ps i nan)) (v .m) i h l))
+      (every-at (λ i. phaseOk (getD ps i nan)) (v .m) i h l))
 
   pub moved-ok : (f0 : Float) (s : State) → Within 20000 1 f0 → T (fits binary32 f0) → phasesOk (s .phases) (v .m) ≡ true → phasesOk (moved v f0 s .phases) (v .m) ≡ true
   unfolding moved
@@ -152,7 +153,7 @@ unfolding inputAt frequenciesOk
 frequency-ok Unconnected fs n ch i h = default-ok
 frequency-ok (Channels k) fs n ch i h =
     ⊎-elim (λ (q : length fs ≤ (ch % k) * n + i). rw (List·getD-eq-default fs nan q))
-    (λ (q : (ch % k) * n + i < length fs). every-each (λ i. frequencyOk (getD fs i nan)) (length fs) ((ch % k) * n + i) h q)
+    (λ (q : (ch % k) * n + i < length fs). every-at (λ i. frequencyOk (getD fs i nan)) (length fs) ((ch % k) * n + i) h q)
     (le-or-lt (length fs) ((ch % k) * n + i))
 
 frequency-fits : (freq : Input) (fs : List Float) (n ch i : ℕ) → AllF32 fs → T (fits binary32 (frequencyAt freq fs n ch i))
@@ -184,7 +185,7 @@ accepted-rules (suc q) v w h k = h
 
 pub first-ok : (m : ℕ) → m ≤ 32 → phasesOk (firstState .phases) m ≡ true
 unfolding phasesOk
-first-ok m h = each-every (λ i. phaseOk (getD (firstState .phases) i nan)) m (λ i l. rw (getD-replicate 32 i (nearest 0 1) nan (omega arith)) zero-ok)
+first-ok m h = at-every (λ i. phaseOk (getD (firstState .phases) i nan)) m (λ i l. rw (getD-replicate 32 i (nearest 0 1) nan (omega arith)) zero-ok)
   where
     zero-ok : phaseOk (nearest 0 1) ≡ true
     zero-ok = unfold round le lt eq in refl

@@ -19,6 +19,7 @@ use Rattle.player.specs.Share.{shareOf}
 use Rattle.player.specs.declared.bracket.Bracket.the-variants.{One}
 use Rattle.player.specs.Voice.{pitchOk, stretchOk}
 use Rattle.player.specs.Bracket.{notAbove, neighbours, bracketOf, sidesOf, SidesIn, between}
+use Rattle.player.proofs.BracketLaws.{notAbove-in}
 use Rattle.player.proofs.PhaseLaws.{share-within}
 use Rattle.player.proofs.RangeLaws.{stretch-ok-within}
 
@@ -39,15 +40,6 @@ le-off x y p q h = go (le-or-lt (num x * den y) (num y * den x))
     go (inr l) = cross→lt y x q p l
 
 module _ (l : List Float) (f0 : Float) where
-  pub notAbove-le : (n : ℕ) → notAbove l f0 n ≤ n
-  unfolding notAbove
-  notAbove-le zero = omega arith
-  notAbove-le (suc n) = go (le (getD l n nan) f0) (notAbove-le n)
-    where
-      go : (b : Bool) → notAbove l f0 n ≤ n → pick b (suc n) (notAbove l f0 n) ≤ suc n
-      go true h = omega arith
-      go false h = omega arith
-
   neighbours-in : (n k : ℕ) → 0 < n → k ≤ n - 1 → SidesIn n (sidesOf (neighbours l f0 k))
   unfolding neighbours
   neighbours-in n zero h g = record { low = h; high = h }
@@ -61,7 +53,7 @@ module _ (l : List Float) (f0 : Float) where
       go : (a b : Bool) → SidesIn n (sidesOf (pick a (One 0) (pick b (One (n - 1)) (neighbours l f0 (notAbove l f0 (n - 1))))))
       go true b = record { low = h; high = h }
       go false true = record { low = omega arith; high = omega arith }
-      go false false = neighbours-in n _ h (notAbove-le (n - 1))
+      go false false = neighbours-in n _ h (notAbove-in l f0 (n - 1))
 
   -- the last not above f0 is not above it, and the one after it is
   at-notAbove : (n k : ℕ) → notAbove l f0 n ≡ suc k → le (getD l n nan) f0 ≡ false → (le (getD l k nan) f0 ≡ true) × (le (getD l (suc k) nan) f0 ≡ false)
@@ -92,7 +84,7 @@ module _ (l : List Float) (f0 : Float) where
     neighbours-share zero e h = zero-share
     neighbours-share (suc k) e h =
         let g = at-notAbove (n - 1) k e h in
-        share-between k (omega (arith, notAbove-le (n - 1))) (g .0) (g .1)
+        share-between k (omega (arith, notAbove-in l f0 (n - 1))) (g .0) (g .1)
 
     -- LAW: the share is from 0 to 1
     pub sides-share : Within 1 1 (sidesOf (bracketOf l n f0) .t)

@@ -20,7 +20,8 @@ use Rattle.player.specs.declared.voice.Voice.{Voice}
 use Rattle.claim.specs.Machine.{machine, plainFrom, plainOf}
 use Rattle.claim.specs.Calls.{Call, run, fed, running, CallsF32}
 use Rattle.claim.specs.Claim.{PhasesIn, Claim}
-use Rattle.claim.proofs.Folds.{both-true, every-each, getD-padded}
+use Rattle.player.proofs.Loops.{both-true, every-at}
+use Rattle.claim.proofs.Folds.{getD-padded}
 use Rattle.claim.proofs.Rules.{VoiceF32, rules-of, phases-of, rules-kept-run}
 use Rattle.claim.proofs.Moves.{view-first, view-run}
 use Rattle.making.proofs.MakingLaws.{Accepted}
@@ -49,7 +50,7 @@ pub phases-in : (v : Voice) → keepsRules v ≡ true → PhasesIn v
 unfolding phasesOk
 phases-in v h i l =
     let p = getD (v .state .phases) i nan in
-    both-true (le (nearest 0 1) p) (lt p (nearest 1 1)) (every-each (λ i. phaseOk (getD (v .state .phases) i nan)) (v .m) i (phases-of v h) l)
+    both-true (le (nearest 0 1) p) (lt p (nearest 1 1)) (every-at (λ i. phaseOk (getD (v .state .phases) i nan)) (v .m) i (phases-of v h) l)
 
 -- the three parts of the claim, of the calls' voice
 abbrev Says : Kind → List PitchEntry → Float → List Float → List Call → Voice → Type 0
