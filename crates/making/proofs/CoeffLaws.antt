@@ -21,7 +21,7 @@ use Rattle.table.proofs.EntryLaws.{coefficient-is}
 use Rattle.player.specs.F32.{nearest}
 use Rattle.making.specs.Making.{f32, sizesOk, partialCoeff, noiseCoeff, isNonzero, reach, reachIn, liveIn}
 use Rattle.making.specs.Views.{formed}
-use Rattle.making.proofs.MakeLists.{both}
+use Rattle.player.proofs.Loops.{both-true}
 
 -- M is what the view says
 pub partials-are : (s : List ℕ) (v : EntryView) → mPartials (entryAt s v) ≡ v .«m_partials»
@@ -42,7 +42,7 @@ noise-lacking s v c b h = rw (le-ltb b (v .«j_noise») h) refl
 -- question 8 of one entry
 pub sizes-are : (s : List ℕ) (v : EntryView) → sizesOk (entryAt s v) ≡ true → (v .«m_partials» ≤ 32) × (v .«j_noise» ≤ 16)
 sizes-are s v h =
-    let p = both (leb (mPartials (entryAt s v)) 32) (leb (v .«j_noise») 16) h in
+    let p = both-true (leb (mPartials (entryAt s v)) 32) (leb (v .«j_noise») 16) h in
     (rw (partials-are s v) at (leb-true (mPartials (entryAt s v)) 32 (p .0)), leb-true (v .«j_noise») 16 (p .1))
 
 pub size-yes : (s : List ℕ) (v : EntryView) → v .«m_partials» ≤ 32 → leb (v .«j_noise») 16 ≡ sizesOk (entryAt s v)

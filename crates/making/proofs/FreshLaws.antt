@@ -23,7 +23,7 @@ use Rattle.player.specs.F32.{nearest}
 use Rattle.player.specs.Lists.{steps, every, padded}
 use Rattle.player.specs.Voice.{pitchOk, stretchOk, phaseOk, pitchesAscend, bandsAscend, countsOk, entriesOk, liveOk, phasesOk, keepsRules, rateOk}
 use Rattle.making.specs.Making.{f32, all, sizesOk, valuesOk, keeps, insert, gathered, voiceEntries, mostChannels, channelCount, partialCoeff, isNonzero, presentFinite, mainlobeKey, noiseGainKey, reach, reachIn, phasesFor, phaseCount, isLive, liveBands, freshVoice, makeQuestion}
-use Rattle.making.proofs.MakeLists.{both}
+use Rattle.player.proofs.Loops.{both-true}
 use Rattle.making.proofs.SortLaws.{all-insert, all-gathered, bands-few}
 use Rattle.making.proofs.MakingLaws.{Accepted, live-short}
 use Rattle.making.proofs.AcceptedLaws.{make-accepted}
@@ -32,7 +32,7 @@ use Rattle.making.proofs.AcceptedLaws.{make-accepted}
 all-imp : {A : Type 0} (f g : A → Bool) (l : List A) → ((a : A) → f a ≡ true → g a ≡ true) → all f l ≡ true → all g l ≡ true
 unfolding all
 all-imp f g [] i h = refl
-all-imp f g (a ∷ l) i h = let p = both (f a) (all f l) h in rw (i a (p .0)) (all-imp f g l i (p .1))
+all-imp f g (a ∷ l) i h = let p = both-true (f a) (all f l) h in rw (i a (p .0)) (all-imp f g l i (p .1))
 
 every-is : (test : ℕ → Bool) (n : ℕ) → ((i : ℕ) → i < n → test i ≡ true) → every test n ≡ true
 unfolding steps
@@ -42,8 +42,8 @@ every-is test (suc n) h = rw (every-is test n (λ i k. h i (omega arith)), h n (
 all-getD : {A : Type 0} (test : Float → Bool) (g : A → Float) (l : List A) (i : ℕ) → all (λ e. test (g e)) l ≡ true → i < length l → test (getD (map g l) i nan) ≡ true
 unfolding all
 all-getD test g [] i h k = absurd (omega arith)
-all-getD test g (a ∷ l) zero h k = both (test (g a)) (all (λ e. test (g e)) l) h .0
-all-getD test g (a ∷ l) (suc i) h k = all-getD test g l i (both (test (g a)) (all (λ e. test (g e)) l) h .1) (omega arith)
+all-getD test g (a ∷ l) zero h k = both-true (test (g a)) (all (λ e. test (g e)) l) h .0
+all-getD test g (a ∷ l) (suc i) h k = all-getD test g l i (both-true (test (g a)) (all (λ e. test (g e)) l) h .1) (omega arith)
 
 -- a place of a padded array that is in use
 padded-at : {A : Type 0} (z d : A) (n i : ℕ) (l : List A) → i < length l → getD (padded n z l) i d ≡ getD l i d
@@ -87,11 +87,11 @@ ascends-cons x (y ∷ m) h k = rw (k y m refl) h
 ascends-tail : (x : PitchEntry) (l : List PitchEntry) → ascends (x ∷ l) ≡ true → ascends l ≡ true
 unfolding ascends
 ascends-tail x [] h = refl
-ascends-tail x (y ∷ m) h = both (le (pitch x) (pitch y)) (ascends (y ∷ m)) h .1
+ascends-tail x (y ∷ m) h = both-true (le (pitch x) (pitch y)) (ascends (y ∷ m)) h .1
 
 ascends-head : (x y : PitchEntry) (m : List PitchEntry) → ascends (x ∷ y ∷ m) ≡ true → le (pitch x) (pitch y) ≡ true
 unfolding ascends
-ascends-head x y m h = both (le (pitch x) (pitch y)) (ascends (y ∷ m)) h .0
+ascends-head x y m h = both-true (le (pitch x) (pitch y)) (ascends (y ∷ m)) h .0
 
 -- the first of the entries after an insertion: the new one or the old first
 first-is : (e x : PitchEntry) (l : List PitchEntry) → ascends (x ∷ l) ≡ true → le (pitch x) (pitch e) ≡ true
@@ -108,7 +108,7 @@ insert-ascends : (e : PitchEntry) (l : List PitchEntry) → pitchOk (pitch e) �
 unfolding insert all
 insert-ascends e [] p a h = ascends-cons e [] h (λ y m q. let z : _≡_ {A = ℕ} 0 1 = cc in absurd (omega arith))
 insert-ascends e (x ∷ l) p a h =
-    let w = both (pitchOk (pitch x)) (all (λ x. pitchOk (pitch x)) l) a in
+    let w = both-true (pitchOk (pitch x)) (all (λ x. pitchOk (pitch x)) l) a in
     go (lt (pitch e) (pitch x)) refl (w .0) (insert-ascends e l p (w .1) (ascends-tail x l h))
   where
     go : (b : Bool) → lt (pitch e) (pitch x) ≡ b → pitchOk (pitch x) ≡ true → ascends (insert e l) ≡ true → ascends (pick b (e ∷ x ∷ l) (x ∷ insert e l)) ≡ true
@@ -122,7 +122,7 @@ gathered-ascends : (k : Kind) (before es : List PitchEntry) → all (λ x. pitch
 unfolding gathered all insert
 gathered-ascends k before [] p a h = (p, h)
 gathered-ascends k before (e ∷ es) p a h =
-    let w = both (pitchOk (pitch e)) (all (λ x. pitchOk (pitch x)) es) a in
+    let w = both-true (pitchOk (pitch e)) (all (λ x. pitchOk (pitch x)) es) a in
     go (keeps k e) (w .0) (λ b q r. gathered-ascends k b es q (w .1) r)
   where
     go : (b : Bool) → pitchOk (pitch e) ≡ true
@@ -136,10 +136,10 @@ ascends-at : (l : List PitchEntry) (i : ℕ) → ascends l ≡ true → i + 1 < 
 unfolding ascends
 ascends-at [] i h k = absurd (omega arith)
 ascends-at (x ∷ []) i h k = absurd (omega arith)
-ascends-at (x ∷ y ∷ l) zero h k = both (le (pitch x) (pitch y)) (ascends (y ∷ l)) h .0
+ascends-at (x ∷ y ∷ l) zero h k = both-true (le (pitch x) (pitch y)) (ascends (y ∷ l)) h .0
 ascends-at (x ∷ y ∷ l) (suc i) h k =
     let q : suc i + 1 ≡ suc (i + 1) = omega arith in
-    rw q (ascends-at (y ∷ l) i (both (le (pitch x) (pitch y)) (ascends (y ∷ l)) h .1) (omega arith))
+    rw q (ascends-at (y ∷ l) i (both-true (le (pitch x) (pitch y)) (ascends (y ∷ l)) h .1) (omega arith))
 
 pitches-ascend : (l : List PitchEntry) → ascends l ≡ true → pitchesAscend (padded 16 (nearest 0 1) (map pitch l)) (length l) ≡ true
 pitches-ascend l h = every-is _ (length l - 1) λ i k.
@@ -196,8 +196,8 @@ phases-few : (k : Kind) (n : ℕ) (es : List PitchEntry) → all sizesOk es ≡ 
 unfolding all phaseCount
 phases-few k n [] h = omega arith
 phases-few k n (e ∷ es) h =
-    let p = both (sizesOk e) (all sizesOk es) h in
-    let m : mPartials e ≤ 32 = leb-true _ _ (both (leb (mPartials e) 32) (leb (e .jNoise) 16) (p .0) .0) in
+    let p = both-true (sizesOk e) (all sizesOk es) h in
+    let m : mPartials e ≤ 32 = leb-true _ _ (both-true (leb (mPartials e) 32) (leb (e .jNoise) 16) (p .0) .0) in
     let a = phases-for-few k n e in
     let b = phases-few k n es (p .1) in
     omega arith
@@ -266,14 +266,14 @@ phases-ok m h = every-is _ m λ i k. ap phaseOk (getD-replicate 32 i (nearest 0 
 -- ---- the whole
 value-pitch : (e : PitchEntry) → valuesOk e ≡ true → pitchOk (pitch e) ≡ true
 unfolding valuesOk
-value-pitch e h = both (pitchOk (pitch e)) (stretchOk (f32 (e .stretch)) && (all (λ b. finite (f32 b)) (e .coefficients) && (presentFinite (metadataValue mainlobeKey (e .metadata)) && presentFinite (metadataValue noiseGainKey (e .metadata))))) h .0
+value-pitch e h = both-true (pitchOk (pitch e)) (stretchOk (f32 (e .stretch)) && (all (λ b. finite (f32 b)) (e .coefficients) && (presentFinite (metadataValue mainlobeKey (e .metadata)) && presentFinite (metadataValue noiseGainKey (e .metadata))))) h .0
 
 value-stretch : (e : PitchEntry) → valuesOk e ≡ true → stretchOk (f32 (e .stretch)) ≡ true
 unfolding valuesOk
-value-stretch e h = both (stretchOk (f32 (e .stretch))) (all (λ b. finite (f32 b)) (e .coefficients) && (presentFinite (metadataValue mainlobeKey (e .metadata)) && presentFinite (metadataValue noiseGainKey (e .metadata)))) (both (pitchOk (pitch e)) (stretchOk (f32 (e .stretch)) && (all (λ b. finite (f32 b)) (e .coefficients) && (presentFinite (metadataValue mainlobeKey (e .metadata)) && presentFinite (metadataValue noiseGainKey (e .metadata))))) h .1) .0
+value-stretch e h = both-true (stretchOk (f32 (e .stretch))) (all (λ b. finite (f32 b)) (e .coefficients) && (presentFinite (metadataValue mainlobeKey (e .metadata)) && presentFinite (metadataValue noiseGainKey (e .metadata)))) (both-true (pitchOk (pitch e)) (stretchOk (f32 (e .stretch)) && (all (λ b. finite (f32 b)) (e .coefficients) && (presentFinite (metadataValue mainlobeKey (e .metadata)) && presentFinite (metadataValue noiseGainKey (e .metadata))))) h .1) .0
 
-both-true : (a b : Bool) → a ≡ true → b ≡ true → a && b ≡ true
-both-true a b p q = rw (p, q) refl
+and-true : (a b : Bool) → a ≡ true → b ≡ true → a && b ≡ true
+and-true a b p q = rw (p, q) refl
 
 module _ (k : Kind) (es : List PitchEntry) (rate : Float) (centres : List Float) (a : Accepted k es rate centres) where
   counts-ok : countsOk (freshVoice k es rate centres) ≡ true
@@ -284,10 +284,10 @@ module _ (k : Kind) (es : List PitchEntry) (rate : Float) (centres : List Float)
       let b = bands-few k es (a .sizes) in
       let s = live-short k es (bandCount k es) in
       let l : length (liveBands k es (bandCount k es)) ≤ 16 = omega arith in
-      both-true _ _ (le-leb _ _ n)
-      (both-true _ _ (le-leb _ _ (phases-few k (channelCount k es) es (a .sizes)))
-      (both-true _ _ (le-leb _ _ b)
-      (both-true _ _ (le-leb _ _ (channels-few k es)) (le-leb _ _ l))))
+      and-true _ _ (le-leb _ _ n)
+      (and-true _ _ (le-leb _ _ (phases-few k (channelCount k es) es (a .sizes)))
+      (and-true _ _ (le-leb _ _ b)
+      (and-true _ _ (le-leb _ _ (channels-few k es)) (le-leb _ _ l))))
 
   entries-ok : entriesOk (freshVoice k es rate centres) ≡ true
   unfolding entriesOk freshVoice all ascends
@@ -296,20 +296,20 @@ module _ (k : Kind) (es : List PitchEntry) (rate : Float) (centres : List Float)
       let p = all-imp valuesOk (λ (e : PitchEntry). pitchOk (pitch e)) (voiceEntries k es) value-pitch v in
       let s = all-imp valuesOk (λ (e : PitchEntry). stretchOk (f32 (e .stretch))) (voiceEntries k es) value-stretch v in
       let g = gathered-ascends k [] es refl (all-imp valuesOk (λ (e : PitchEntry). pitchOk (pitch e)) es value-pitch (a .values)) refl in
-      both-true _ _ (padded-all pitchOk pitch (nearest 0 1) 16 (voiceEntries k es) p)
-      (both-true _ _ (pitches-ascend (voiceEntries k es) (g .1)) (padded-all stretchOk (λ (e : PitchEntry). f32 (e .stretch)) (nearest 0 1) 16 (voiceEntries k es) s))
+      and-true _ _ (padded-all pitchOk pitch (nearest 0 1) 16 (voiceEntries k es) p)
+      (and-true _ _ (pitches-ascend (voiceEntries k es) (g .1)) (padded-all stretchOk (λ (e : PitchEntry). f32 (e .stretch)) (nearest 0 1) 16 (voiceEntries k es) s))
 
   live-ok : liveOk (freshVoice k es rate centres) ≡ true
   unfolding liveOk freshVoice
   live-ok =
       let r = live-rising k es (bandCount k es) in
-      both-true _ _ (bands-below (bandCount k es) (liveBands k es (bandCount k es)) r) (bands-ascend (bandCount k es) (liveBands k es (bandCount k es)) r)
+      and-true _ _ (bands-below (bandCount k es) (liveBands k es (bandCount k es)) r) (bands-ascend (bandCount k es) (liveBands k es (bandCount k es)) r)
 
   pub accepted-rules : keepsRules (freshVoice k es rate centres) ≡ true
   unfolding keepsRules freshVoice
   accepted-rules =
-      both-true _ _ counts-ok
-      (both-true _ _ entries-ok (both-true _ _ (a .rate-ok) (both-true _ _ live-ok (phases-ok _ (phases-few k (channelCount k es) es (a .sizes))))))
+      and-true _ _ counts-ok
+      (and-true _ _ entries-ok (and-true _ _ (a .rate-ok) (and-true _ _ live-ok (phases-ok _ (phases-few k (channelCount k es) es (a .sizes))))))
 
 -- LAW: a fresh voice keeps the voice rules
 pub fresh-rules : (k : Kind) (image : List ℕ) (rate : Float) (centres : List Float) → makeQuestion k image rate centres .number ≡ 0

@@ -1,5 +1,5 @@
 -- Laws of arrays that are filled from the front: padded lists and lists by index. Assumes nothing.
-use Prim.Native.Nat.{ℕ, zero, suc, _+_, _-_, _*_, _/_, _≤_, _<_}
+use Prim.Native.Nat.{ℕ, zero, suc, _+_, _-_, _≤_, _<_}
 use mathlib.Core.Path.{_≡_, refl, ap, sym, _∙_}
 use mathlib.Core.List.{List, [], _∷_, _++_, map, append-assoc, append-nil}
 use mathlib.Core.Bool.{Bool, true, false, _&&_}
@@ -12,11 +12,6 @@ use Rattle.wire.specs.Parse.{pick}
 use Rattle.player.specs.Lists.{upTo, padded}
 use Rattle.making.specs.Live.{liveOf, addLive}
 use Rattle.making.specs.Making.{all}
-
--- two tests that are both passed
-pub both : (a b : Bool) → a && b ≡ true → (a ≡ true) × (b ≡ true)
-both true b h = (refl, h)
-both false b h = let z : _≡_ {A = ℕ} 0 1 = cc in absurd (omega arith)
 
 -- the element after those that are set
 pub pad-snoc : {A : Type 0} (z a : A) (n i : ℕ) (l : List A) → length l ≡ i → i < n → set (padded n z l) i a ≡ padded n z (l ++ (a ∷ []))
@@ -54,15 +49,6 @@ live-add l b false h = rw append-nil refl
 
 -- lists by index
 module _ {A : Type 0} (f : ℕ → A) where
-  pub length-upTo : (n : ℕ) → length (upTo f n) ≡ n
-  unfolding upTo
-  length-upTo zero = refl
-  length-upTo (suc n) = rw (length-append, length-upTo n) (add-one n)
-
-  pub upTo-again : (n : ℕ) (l ls : List A) → n < length l → ls ≡ upTo f n ++ drop n l → set ls n (f n) ≡ upTo f (n + 1) ++ drop (n + 1) l
-  unfolding upTo
-  upTo-again n l ls h e = rw (e, add-one n, drop-cons l n (f n) h, set-at (upTo f n) (getD l n (f n)) (drop (suc n) l) (f n) n (length-upTo n), append-assoc) refl
-
   -- what follows index n is all z
   rest-same : (z : A) (n m : ℕ) → ((x : ℕ) → n ≤ x → f x ≡ z) → upTo f n ++ replicate m z ≡ upTo f (n + m)
   unfolding upTo

@@ -16,7 +16,7 @@ use Rattle.table.specs.Table.{PitchEntry, CoeffTable}
 use Rattle.table.specs.Desk.{bandCount}
 use Rattle.player.specs.Voice.{rateOk}
 use Rattle.making.specs.Making.{all, sizesOk, limitsOk, valuesOk, askValues, channelFound, centresOk, askMaking, tableQuestion, isLive, liveBands}
-use Rattle.making.proofs.MakeLists.{both}
+use Rattle.player.proofs.Loops.{both-true}
 
 -- all questions of a table are answered yes
 pub record Accepted (k : Kind) (es : List PitchEntry) (rate : Float) (centres : List Float) : Type 0 where
@@ -44,7 +44,7 @@ asked-values i (e ∷ es) r h = go (valuesOk e) (asked-values (i + 1) es r) h
 pub values-pass : (i : ℕ) (es : List PitchEntry) (r : Refusal) → all valuesOk es ≡ true → askValues i es r ≡ r
 unfolding askValues all
 values-pass i [] r h = refl
-values-pass i (e ∷ es) r h = let p = both (valuesOk e) (all valuesOk es) h in rw (p .0) (values-pass (i + 1) es r (p .1))
+values-pass i (e ∷ es) r h = let p = both-true (valuesOk e) (all valuesOk es) h in rw (p .0) (values-pass (i + 1) es r (p .1))
 
 module _ (k : Kind) (es : List PitchEntry) (rate : Float) (centres : List Float) where
   -- LAW: a table's making is accepted only where all is as asked for
@@ -56,8 +56,8 @@ module _ (k : Kind) (es : List PitchEntry) (rate : Float) (centres : List Float)
       let c = asked (channelFound k es) 9 _ (b .1) in
       let d = asked (rateOk rate) 10 _ (c .1) in
       let e = asked (eqb (length centres) (bandCount k es) && all finite centres) 11 _ (d .1) in
-      let l = both (leb (length es) 16) (all sizesOk es) (a .0) in
-      let m = both (eqb (length centres) (bandCount k es)) (all finite centres) (e .0) in
+      let l = both-true (leb (length es) 16) (all sizesOk es) (a .0) in
+      let m = both-true (eqb (length centres) (bandCount k es)) (all finite centres) (e .0) in
       record {
         few = leb-true _ _ (l .0);
         sizes = l .1;

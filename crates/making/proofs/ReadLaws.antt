@@ -1,12 +1,12 @@
 -- What an image's reading says to a making: its table, that its entries are well formed, and the bands of their views. Assumes nothing.
 use Prim.Native.Nat.{ℕ, zero, suc, _+_, _*_, _≤_, _<_, max}
-use mathlib.Core.Path.{_≡_, refl, ap, sym, subst, _∙_}
+use mathlib.Core.Path.{_≡_, refl, ap, sym, _∙_}
 use mathlib.Core.List.{List, [], _∷_, map}
 use mathlib.Core.Bool.{Bool, true, false, _&&_}
 use native.Mathlib.Omega.{arith}
 use lib.ListN.{length, take}
 use lib.Dec.{T, leb, eqb}
-use lib.Ieee.{Float, le}
+use lib.Ieee.{Float}
 use borrow.Author.Tests.{lt-leb}
 use Rattle.wire.specs.Parse.{Refusal, refusal, Parsed, ok, refused, asked, then, onward, standing}
 use Rattle.wire.specs.Cursor.{u32}
@@ -21,15 +21,10 @@ use Rattle.table.specs.Decode.{decode, entriesOf}
 use Rattle.table.specs.Image.{counted, pairs, entry}
 use Rattle.table.specs.View.{entryAt, entryList}
 use Rattle.table.specs.Desk.{bandsOf, bandCount, Outcome, desk, refusedBy, deskOf, deskOutcome}
-use Rattle.player.specs.F32.{nearest}
-use Rattle.player.specs.Rate.{Rate}
-use Rattle.player.specs.Voice.{rateOk}
 use Rattle.player.specs.Play.{accepted}
 use Rattle.making.specs.Making.{all, limitsOk, tableQuestion, makeOf, makeQuestion, freshVoice, blankVoice}
 use Rattle.making.specs.Views.{formed}
-use Rattle.player.proofs.Tests.{rate-is}
 use Rattle.making.proofs.CoeffLaws.{refused-number}
-use Rattle.making.proofs.MakeLists.{both}
 
 -- the desk's answer tells the reading
 pub desk-refused : (k : Kind) (p : Parsed CoeffTable) (r : Refusal) → refusedBy r ≡ deskOutcome k p → p ≡ refused r
@@ -81,12 +76,6 @@ bands-same k s t (v ∷ vs) = rw (bands-one k s t v, bands-same k s t vs) refl
 pub too-many : (k : Kind) (es : List PitchEntry) (rate : Float) (centres : List Float) → 16 < length es → tableQuestion k es rate centres ≡ refusal 8 0 0
 unfolding tableQuestion limitsOk
 too-many k es rate centres h = rw (lt-leb (length es) 16 h) refl
-
--- a sample rate that passed question 11
-pub rate-of : (x : Float) → rateOk x ≡ true → Rate x
-rate-of x h =
-    let p = both (le (nearest 8000 1) x) (le x (nearest 192000 1)) h in
-    rate-is x (subst T (sym (p .0)) tt) (subst T (sym (p .1)) tt)
 
 -- a refused making leaves what was given
 pub given-back : {A : Type 0} (q : ℕ) (a b : A) → eqb q 0 ≡ false → accepted q a b ≡ b

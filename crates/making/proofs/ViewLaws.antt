@@ -15,7 +15,7 @@ use Rattle.table.specs.declared.entry.EntryView.{EntryView}
 use Rattle.table.specs.Table.{PitchEntry}
 use Rattle.table.specs.View.{entryAt}
 use Rattle.making.specs.Views.{noView}
-use Rattle.making.proofs.MakeLists.{both}
+use Rattle.player.proofs.Loops.{both-true}
 
 -- the entries from index i on, of the first n views
 abbrev pub rest : List ℕ → List EntryView → ℕ → ℕ → List PitchEntry
@@ -48,11 +48,11 @@ module _ (s : List ℕ) (views : List EntryView) (i n : ℕ) (l : n ≤ length v
 
   pub all-here : (f : PitchEntry → Bool) → all f (rest s views i n) ≡ true → f here ≡ true
   unfolding all
-  all-here f e = both (f here) (all f (rest s views (i + 1) n)) (ap (all f) (sym go) ∙ e) .0
+  all-here f e = both-true (f here) (all f (rest s views (i + 1) n)) (ap (all f) (sym go) ∙ e) .0
 
   pub all-later : (f : PitchEntry → Bool) → all f (rest s views i n) ≡ true → all f (rest s views (i + 1) n) ≡ true
   unfolding all
-  all-later f e = both (f here) (all f (rest s views (i + 1) n)) (ap (all f) (sym go) ∙ e) .1
+  all-later f e = both-true (f here) (all f (rest s views (i + 1) n)) (ap (all f) (sym go) ∙ e) .1
 
   pub any-go : (f : PitchEntry → Bool) → f here ≡ false → any f (rest s views i n) ≡ any f (rest s views (i + 1) n)
   unfolding any

@@ -17,7 +17,8 @@ use lib.ListN.{drop, length-set, length-replicate}
 use Rattle.player.specs.F32.{nearest}
 use Rattle.player.specs.Lists.{upTo}
 use Rattle.making.specs.Making.{noisePlace}
-use Rattle.making.proofs.MakeLists.{upTo-again, upTo-full}
+use Rattle.player.proofs.Loops.{upTo-again}
+use Rattle.making.proofs.MakeLists.{upTo-full}
 use Rattle.making.proofs.PlaceLaws.{row-of, noise-is, noise-none}
 use borrow.Author.Needs.{needs}
 use Rattle.making.proofs.fill.noise.Statement.{statement}

@@ -10,7 +10,8 @@ use lib.ListN.{drop, length-set, length-replicate}
 use Rattle.player.specs.F32.{nearest}
 use Rattle.player.specs.Lists.{upTo}
 use Rattle.making.specs.Making.{partialPlace}
-use Rattle.making.proofs.MakeLists.{upTo-again, upTo-full}
+use Rattle.player.proofs.Loops.{upTo-again}
+use Rattle.making.proofs.MakeLists.{upTo-full}
 use Rattle.making.proofs.PlaceLaws.{row-of, partial-is, partial-none}
 use borrow.Author.Needs.{needs}
 use Rattle.making.proofs.fill.partials.Statement.{statement}
