@@ -153,19 +153,12 @@ fn shrunk(c: &Case) -> Case {
 pub fn run_case(c: &Case, tally: &mut Tally) {
     tally.cases += 1;
     if let Err(e) = check(c, tally) {
-        tally.differences += 1;
-        if tally.differences <= 3 {
-            println!("difference: {e}");
+        tally.difference(&e, || {
             let s = shrunk(c);
-            println!(
-                "  smallest found: channel {}, target {:+} bytes, image of {} bytes: {}",
-                s.channel,
-                s.slack,
-                s.image.len(),
-                hex(&s.image[..s.image.len().min(200)])
-            );
-            println!("  there: {}", check(&s, &mut Tally::default()).unwrap_err());
-        }
+            let start = hex(&s.image[..s.image.len().min(200)]);
+            let case = format!("channel {}, target {:+} bytes, image of {} bytes: {start}", s.channel, s.slack, s.image.len());
+            (case, check(&s, &mut Tally::default()).unwrap_err())
+        });
     }
 }
 

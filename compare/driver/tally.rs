@@ -15,6 +15,14 @@ impl Tally {
     pub fn number(&mut self, n: u32) {
         self.numbers[n as usize] += 1;
     }
+    // Counts one difference and tells the first three: what differed, the smallest case with a difference that was found, and what differs there.
+    pub fn difference(&mut self, what: &str, smallest: impl FnOnce() -> (String, String)) {
+        self.differences += 1;
+        if self.differences <= 3 {
+            let (case, there) = smallest();
+            println!("difference: {what}\n  smallest found: {case}\n  there: {there}");
+        }
+    }
     pub fn print(&self, what: &str) {
         let by: String = self.numbers.iter().enumerate().filter(|(_, n)| **n > 0).map(|(i, n)| format!(" {i}:{n}")).collect();
         println!(

@@ -96,17 +96,12 @@ pub fn shrunk(c: &Case) -> Case {
 pub fn run_case(c: &Case, tally: &mut Tally) {
     tally.cases += 1;
     if let Err(e) = check(c, tally) {
-        tally.differences += 1;
-        if tally.differences <= 3 {
-            println!("difference: {e}");
+        tally.difference(&e, || {
             let s = shrunk(c);
             let image: String = s.table.bytes().iter().map(|b| format!("{b:02X} ")).collect();
-            println!(
-                "  smallest found: kind {}, channel {}, rate {:?}, centres {:?}, image {image}, calls {:?}",
-                s.kind, s.channel, s.rate, s.centres, s.calls
-            );
-            println!("  there: {}", check(&s, &mut Tally::default()).unwrap_err());
-        }
+            let case = format!("kind {}, channel {}, rate {:?}, centres {:?}, image {image}, calls {:?}", s.kind, s.channel, s.rate, s.centres, s.calls);
+            (case, check(&s, &mut Tally::default()).unwrap_err())
+        });
     }
 }
 
