@@ -80,6 +80,13 @@ between-within x y h k p =
     let q : T (plain x) = above-zero x y h k p in
     record { plain-is = q; upper = le-of-lt (lt→cross x y q p (subst T (sym k) tt)) }
 
+-- ---- 0 < x: no NaN
+pub above-no-nan : (x : Float) → lt (fin false 0 (pos 0)) x ≡ true → T (not (isNan x))
+unfolding lt isNan
+above-no-nan nan h = absurd (subst T (sym h) tt)
+above-no-nan (inf s) h = tt
+above-no-nan (fin s m e) h = tt
+
 -- ---- a pattern that may be a NaN's
 only-nan : (x : Float) → isNan x ≡ true → x ≡ nan
 unfolding isNan

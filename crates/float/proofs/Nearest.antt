@@ -22,7 +22,7 @@ use Rattle.float.proofs.Within.{value-plain, value-cross, mul-is}
 use Rattle.float.proofs.Unique.{round-self}
 use Rattle.float.proofs.Bounds.{le-or-lt}
 use Rattle.float.proofs.Patterns.{place, val, val-normal, val-packed, pattern-is, plain-pattern, normal-range}
-use Rattle.float.proofs.Roots.{Root, root-is, root-range, scaled-even, scaled-odd, scaled-range}
+use Rattle.float.proofs.RootLaws.{Root, root-is, root-range, scaled-even, scaled-odd, scaled-range}
 use Rattle.float.proofs.Subnormal.{positive-plain, scaled-value, normal-scaled, normal-from}
 use Rattle.float.proofs.Operands.{positive-sqrt}
 

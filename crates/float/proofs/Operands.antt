@@ -1,21 +1,23 @@
 -- The square root by the kind of its operand: what the tests of `sqrt` say of x. Assumes nothing.
 use mathlib.Core.Path.{_≡_, refl, sym, ap, _∙_, subst}
-use Prim.Native.Nat.{ℕ, zero, suc, _*_, _<_}
-use native.Mathlib.Nat.{le-of-eq, lt-of-lt-of-le, lt-irrefl, zero-lt-suc, zero-mul, mul-one, mul-pos}
+use Prim.Native.Nat.{ℕ, zero, suc, _*_, _^_, _<_}
+use native.Mathlib.Nat.{le-of-eq, lt-of-lt-of-le, lt-irrefl, zero-lt-suc, zero-mul, mul-one, mul-pos, not-le-of-lt}
 use native.Mathlib.Omega.{arith}
-use mathlib.Core.Bool.{Bool, true, false, _&&_, _||_, Bool·beq}
-use lib.IntN.{ℤ, pos}
-use lib.Dec.{T, ltb, eqb, ltb→lt, lt→ltb, eqb→eq}
-use lib.Ieee.{Float, nan, inf, fin, up, down, lt, eq}
-use lib.Ieee.Bits.{is-true}
+use mathlib.Core.Bool.{Bool, true, false, cond, _&&_, _||_, Bool·beq}
+use lib.IntN.{ℤ, pos, negsuc}
+use lib.Dec.{T, ltb, eqb, ltb→lt, lt→ltb, eqb→eq, not-T, lit<}
+use lib.Ieee.{Float, nan, inf, fin, binary32, up, down, lt, le, eq, mul}
+use lib.Ieee.Bits.{is-true, is-false}
 use lib.Ieee.Fits.{up-pos, and-l}
-use lib.Ieee.Positive.{positive}
+use lib.Ieee.Positive.{num, positive}
 use lib.Ieee.Scale.{finite}
-use Rattle.float.specs.Sqrt.{sqrt, positiveRoot}
-
--- the zero of the tests
-abbrev none : Float
-none = fin false 0 (pos 0)
+use Rattle.float.specs.Range.{plain}
+use Rattle.float.specs.Sqrt.{none, smallest, normal, normalRoot, sqrt, positiveRoot}
+use Rattle.float.proofs.Within.{lt→cross}
+use Rattle.float.proofs.Finite.{shown}
+use Rattle.float.proofs.Subnormal.{normal-from}
+use Rattle.float.proofs.Compare.{over-positive}
+use Rattle.float.proofs.AtLeast.{at-least-positive}
 
 nothing-below : (a : ℕ) → a < 0 → ⊥
 nothing-below a h = omega arith
@@ -95,3 +97,43 @@ positive-sqrt (inf s) p = absurd p
 positive-sqrt (fin true m e) p = absurd p
 positive-sqrt (fin false zero e) p = absurd p
 positive-sqrt (fin false (suc m) e) p = refl
+
+-- ---- between the smallest normal float and the largest of all
+abbrev pub largest : Float
+largest = fin false 16777215 (pos 104)
+
+between-finite : (x : Float) → le smallest x ≡ true → le x largest ≡ true → T (finite x)
+unfolding le lt eq
+between-finite nan h k = clash (sym h)
+between-finite (inf true) h k = clash (sym h)
+between-finite (inf false) h k = clash (sym k)
+between-finite (fin s m e) h k = tt
+
+positive-from : (x : Float) → T (plain x) → 0 < num x → T (positive x)
+positive-from nan p h = absurd p
+positive-from (inf s) p h = absurd p
+positive-from (fin true m e) p h = absurd p
+positive-from (fin false zero e) p h = absurd (nothing-below _ (lt-of-lt-of-le h (le-of-eq (zero-mul (up e)))))
+positive-from (fin false (suc m) e) p h = lt→ltb 0 (suc m) (zero-lt-suc m)
+
+positive-between : (x : Float) → le smallest x ≡ true → le x largest ≡ true → T (positive x)
+positive-between x h k =
+    let a = over-positive x smallest (between-finite x h k) tt (shown (le smallest x) h) in
+    positive-from x (a .plain-is) (at-least-positive 1 (2 ^ 126) x (lit< tt) a)
+
+positive-above : (x : Float) → T (positive x) → lt none x ≡ true
+positive-above nan p = absurd p
+positive-above (inf s) p = absurd p
+positive-above (fin true m e) p = absurd p
+positive-above (fin false zero e) p = absurd p
+positive-above (fin false (suc m) e) p = is-above m e
+
+pub normal-above : (x : Float) → le smallest x ≡ true → le x largest ≡ true → lt none x ≡ true
+normal-above x h k = positive-above x (positive-between x h k)
+
+pub sqrt-normal : (x : Float) → le smallest x ≡ true → le x largest ≡ true → T (normal x) × (sqrt x ≡ normalRoot x)
+sqrt-normal x h k =
+    let a = over-positive x smallest (between-finite x h k) tt (shown (le smallest x) h) in
+    let p = a .plain-is in
+    let g : lt x smallest ≡ false = is-false (lt x smallest) (not-T (lt x smallest) (λ (t : T (lt x smallest)). not-le-of-lt (lt→cross x smallest p tt t) (a .lower))) in
+    (normal-from x p g, positive-sqrt x (positive-between x h k) ∙ ap (λ (b : Bool). cond b (mul binary32 (normalRoot (mul binary32 x (fin false 1 (pos 24)))) (fin false 1 (negsuc 11))) (normalRoot x)) g)

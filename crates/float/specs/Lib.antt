@@ -4,4 +4,5 @@ pub mod Lerp
 pub mod Order
 pub mod Root
 pub mod Sqrt
+pub mod Roots
 pub mod Nearest

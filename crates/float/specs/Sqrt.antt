@@ -7,6 +7,10 @@ use lib.Ieee.{Float, nan, inf, fin, binary32, ofBits, toBits, lt, mul}
 use Rattle.float.specs.Range.{plain}
 use Rattle.float.specs.Root.{root}
 
+-- 0, with no sign
+abbrev pub none : Float
+none = fin false 0 (pos 0)
+
 -- the smallest normal float, 2 ^ -126
 abbrev pub smallest : Float
 smallest = fin false 1 (negsuc 125)

@@ -10,12 +10,21 @@ fn bits(x: f32) -> u32 {
     f32::to_bits(x)
 }
 
-// What the function that `which` names gives: 0 sqrt, 1 is_finite, and from_bits for the rest.
+// What `sqrt_each` gives at a place of a column of sixteen x.
+fn in_column(x: f32, place: usize) -> f32 {
+    let xs: [f32; 16] = [x; 16];
+    let mut roots: [f32; 16] = [0.0; 16];
+    float::sqrt_each(&mut roots, &xs, 16);
+    roots[place % 16]
+}
+
+// What the function that `which` names gives: 0 sqrt, 1 is_finite, 2 sqrt_each, and from_bits for the rest.
 fn answer(which: u32, n: u32) -> u32 {
     let x = float::from_bits(n);
     match which {
         0 => bits(float::sqrt(x)),
         1 => float::is_finite(x) as u32,
+        2 => bits(in_column(x, n as usize)),
         _ => bits(x),
     }
 }
@@ -119,9 +128,10 @@ fn compare_values(name: &[u8], patterns: &[u32; 90], values: &[f32; 90]) {
 
 fn main() {
     compare(b"sqrt", 0, &cases::SQRT);
+    compare(b"sqrt_each", 2, &cases::SQRT);
     compare_two(b"min", 0, &cases::PAIRS, &cases::MIN);
     compare_two(b"max", 1, &cases::PAIRS, &cases::MAX);
     compare(b"is_finite", 1, &cases::IS_FINITE);
-    compare(b"from_bits special", 2, &cases::SPECIAL);
+    compare(b"from_bits special", 3, &cases::SPECIAL);
     compare_values(b"from_bits", &cases::FINITE, &cases::VALUES);
 }

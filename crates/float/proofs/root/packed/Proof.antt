@@ -1,37 +1,31 @@
--- `float::root::packed` meets its contract: the pattern is below the infinity's. Assumes nothing.
+-- `root::packed` meets its contract: the pattern is below the infinity's. Assumes nothing.
+use Prim.Native.Nat.{ℕ, _+_, _*_, _/_, _<_, _≤_}
 use native.Mathlib.Omega.{arith}
-use Prim.Native.Nat.{ℕ, _+_, _*_, _/_, _<_}
 use Rattle.float.proofs.Patterns.{pattern-no-nan}
 use borrow.Author.Needs.{needs}
 use Rattle.float.proofs.root.packed.Statement.{statement}
 use Rattle.float.proofs.root.packed.Tie as tie
 
-add-h : tie.Need-add-h
-add-h c = search needs
+high : (b h : ℕ) → b < 2139095040 → h ≤ 16777216 → ((b / 8388608 + 1) / 2 + 62) * 8388608 + h < 2139095040
+high b h u v = omega arith
 
-cast-h : tie.Need-cast-h
-cast-h c = search needs
+add-e : tie.Need-add-e
+add-e c = search needs
 
-add-result : tie.Need-add-result
-add-result c = search needs
-
-add-result-2 : tie.Need-add-result-2
-add-result-2 c = search needs
+add-e-2 : tie.Need-add-e-2
+add-e-2 c = search needs
 
 mul-result : tie.Need-mul-result
 mul-result c = search needs
 
-add-result-3 : tie.Need-add-result-3
-add-result-3 c = search needs
+cast-result : tie.Need-cast-result
+cast-result c = search needs
 
-high : (e r : ℕ) → e < 255 → r < 33554432 → ((e + 1) / 2 + 62) * 8388608 + (r + 1) / 2 < 2139095040
-high e r h k = omega arith
+add-result : tie.Need-add-result
+add-result c = search needs
 
 float-from-bits-result : tie.Need-float-from-bits-result
-float-from-bits-result c =
-    let e = c .args .e in
-    let r = c .args .r in
-    pattern-no-nan (((e + 1) / 2 + 62) * 8388608 + (r + 1) / 2) (high e r (c .pre .0) (c .pre .2))
+float-from-bits-result c = pattern-no-nan (((c .args .b / 8388608 + 1) / 2 + 62) * 8388608 + c .args .h) (high (c .args .b) (c .args .h) (c .pre .0) (c .pre .1))
 
 returns : tie.Need-returns
 returns c = search needs
@@ -39,12 +33,4 @@ returns c = search needs
 pub packed-spec : {M : Type 1} → statement M
 packed-spec =
     tie.close
-    (tie.spec
-    add-h
-    cast-h
-    add-result
-    add-result-2
-    mul-result
-    add-result-3
-    float-from-bits-result
-    returns)
+    (tie.spec add-e add-e-2 mul-result cast-result add-result float-from-bits-result returns)

@@ -1,37 +1,24 @@
--- `float::root::sqrt` meets its contract. Assumes nothing.
-use mathlib.Core.Path.{_≡_, refl, sym, _∙_}
-use lib.Ieee.{nan, binary32, div, ofBits}
-use Rattle.float.proofs.Finite.{finite-test}
-use Rattle.float.proofs.Operands.{sqrt-positive, sqrt-infinite, sqrt-zero, sqrt-none}
+-- `root::sqrt` meets its contract. Assumes nothing.
+use mathlib.Core.Path.{sym, _∙_}
+use lib.Ieee.{ofBits}
+use Rattle.float.proofs.Operands.{sqrt-normal}
+use borrow.Author.Needs.{needs}
 use Rattle.float.proofs.root.sqrt.Statement.{statement}
 use Rattle.float.proofs.root.sqrt.Tie as tie
 
-made : div binary32 (ofBits binary32 0) (ofBits binary32 0) ≡ nan
-unfolding div ofBits
-made = refl
-
-positive-root-requires : tie.Need-positive-root-requires
+normal-root-requires : tie.Need-normal-root-requires
 unfolding ofBits
-positive-root-requires c κs = let x = c .before .before .args .x in sqrt-positive x (c .before .if1 .taken) (sym (finite-test x) ∙ c .if2 .taken) .0
+normal-root-requires c κs = sqrt-normal (c .before .before .args .x) (c .before .if1 .taken) (c .if2 .taken) .0
 
 returns : tie.Need-returns
 unfolding ofBits
-returns c =
-    let d = c .before in
-    let x = d .before .before .args .x in
-    c .positive-root .ensures ∙ sym (sqrt-positive x (d .before .if1 .taken) (sym (finite-test x) ∙ d .if2 .taken) .1)
+returns c = let d = c .before in c .normal-root .ensures ∙ sym (sqrt-normal (d .before .before .args .x) (d .before .if1 .taken) (d .if2 .taken) .1)
+
+rare-root-requires : tie.Need-rare-root-requires
+rare-root-requires c κs = search needs
 
 returns-2 : tie.Need-returns-2
-unfolding ofBits
-returns-2 c = let x = c .before .before .args .x in sym (sqrt-infinite x (c .before .if1 .taken) (sym (finite-test x) ∙ c .if2 .left))
-
-returns-3 : tie.Need-returns-3
-unfolding ofBits
-returns-3 c = sym (sqrt-zero (c .before .before .args .x) (c .if3 .taken))
-
-returns-4 : tie.Need-returns-4
-unfolding ofBits
-returns-4 c = made ∙ sym (sqrt-none (c .before .before .args .x) (c .before .if1 .left) (c .if3 .left))
+returns-2 c = search needs
 
 pub sqrt-spec : {M : Type 1} → statement M
-sqrt-spec = tie.close (tie.spec positive-root-requires returns returns-2 returns-3 returns-4)
+sqrt-spec = tie.close (tie.spec normal-root-requires returns rare-root-requires returns-2)
