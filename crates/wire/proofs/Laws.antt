@@ -13,7 +13,7 @@ use borrow.Author.Tests.{le-leb, lt-leb, ne-eqb}
 use Rattle.wire.specs.declared.utf8.Rest.{Rest}
 use Rattle.wire.specs.Parse.{ok, refused, pick}
 use Rattle.wire.specs.Utf8.{Octets, Next, follow, bad, chars, lead, octet, onto, octets, utf8}
-use Rattle.wire.specs.Utf8State.{restOf, ranges}
+use Rattle.wire.specs.Utf8State.{restOf, ranges, Upto}
 use Rattle.wire.specs.Cursor.{place, part, stringOf, badUtf8}
 
 -- whether n bytes are there, by the tests that the code makes
@@ -36,6 +36,28 @@ octets-go rest next s i h e = octets-step rest s i h ∙ ap (λ (n : Next). onto
 
 pub octets-stop : (rest : List Octets) (s : List ℕ) (i : ℕ) → i < length s → octet rest (getD s i 0) ≡ bad → octets (drop i s) rest ≡ false
 octets-stop rest s i h e = octets-step rest s i h ∙ ap (λ (n : Next). onto n (λ m. octets (drop (i + 1) s) m)) e
+
+-- a byte below 0x80 is a character of its own
+ascii-octet : (b : ℕ) → b < 0x80 → octet [] b ≡ follow []
+unfolding octet lead
+ascii-octet b h = simp (le-leb b 0x7f (omega arith), le-leb 0x0 b (omega arith))
+
+-- and n of them are passed over
+pub octets-plain : (s : List ℕ) (n i b : ℕ) → i + n ≤ length s → b < 0x80 → Upto s i n b → octets (drop i s) [] ≡ octets (drop (i + n) s) []
+octets-plain s zero i b h u f = ap (λ (k : ℕ). octets (drop k s) []) (none i)
+  where
+    none : (i : ℕ) → i ≡ i + 0
+    none i = omega arith
+octets-plain s (suc n) i b h u f =
+    octets-plain s n i b (omega arith) u (λ (k : ℕ) (l : k < n). f k (omega arith))
+    ∙ octets-go [] [] s (i + n) (omega arith) (ascii-octet (getD s (i + n) 0) (below (f n (omega arith)) u))
+    ∙ ap (λ (k : ℕ). octets (drop k s) []) (next i n)
+  where
+    below : {a c : ℕ} → a ≤ c → c < 0x80 → a < 0x80
+    below h k = omega arith
+
+    next : (i n : ℕ) → i + n + 1 ≡ i + suc n
+    next i n = omega arith
 
 whole : (n lo hi : ℕ) → octets [] (restOf n lo hi) ≡ eqb n 0
 unfolding octets restOf
@@ -70,6 +92,10 @@ module _ (t : Rest) (b : ℕ) where
   pub octet-lead : t .left ≡ 0 → octet (ranges t) b ≡ lead chars b
   unfolding octet restOf
   octet-lead e = rw e refl
+
+  pub octet-plain : t .left ≡ 0 → b < 0x80 → octet (ranges t) b ≡ follow (ranges t)
+  unfolding octet restOf
+  octet-plain e h = rw e (ascii-octet b h)
 
   pub octet-low : (t .left ≡ 0 → ⊥) → b < t .low → octet (ranges t) b ≡ bad
   unfolding octet restOf

@@ -1,6 +1,7 @@
 -- What the UTF-8 test keeps between two bytes, as the rest of a row of RFC 3629. Cited by private functions only.
-use Prim.Native.Nat.{ℕ, zero, suc}
+use Prim.Native.Nat.{ℕ, zero, suc, _+_, _<_, _≤_}
 use mathlib.Core.List.{List, [], _∷_}
+use lib.ListN.{getD}
 use Rattle.wire.specs.declared.utf8.Follow.{Follow}
 use Rattle.wire.specs.declared.utf8.Rest.{Rest}
 use Rattle.wire.specs.Utf8.{Octets, range, Next, follow, bad}
@@ -16,3 +17,7 @@ ranges t = restOf (t .left) (t .low) (t .high)
 abbrev pub followNext : Follow → Next
 followNext (Follow.Rest t) = follow (ranges t)
 followNext Follow.Bad = bad
+
+-- of the n bytes from `at` on, none is above b
+abbrev pub Upto : List ℕ → ℕ → ℕ → ℕ → Type 0
+Upto s at n b = (k : ℕ) → k < n → getD s (at + k) 0 ≤ b

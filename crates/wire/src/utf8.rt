@@ -1,7 +1,10 @@
 // UTF-8 (RFC 3629, section 4) by a state machine: between two bytes it holds what must follow in the present character.
 ghost use mathlib.Core.Path.{_≡_};
-ghost use Rattle.wire.specs.Utf8.{chars, lead, octet, utf8};
-ghost use Rattle.wire.specs.Utf8State.{ranges, followNext};
+ghost use Prim.Native.Nat.{_+_, _<_, _≤_};
+ghost use mathlib.Core.List.{[]};
+ghost use lib.ListN.{length, drop};
+ghost use Rattle.wire.specs.Utf8.{chars, lead, octet, onto, octets, utf8};
+ghost use Rattle.wire.specs.Utf8State.{ranges, followNext, Upto};
 ghost use Rattle.wire.specs.declared.utf8.Follow.{Follow};
 
 // What must follow in a character: `left` bytes more, the next one from `low` to `high`, those after it from 0x80 to 0xBF.
@@ -76,6 +79,84 @@ fn next_byte(t: Rest, b: u8) -> Follow
     then_rest(t.left - 1, 0x80, 0xBF)
 }
 
+// The bytes from `from` up to `to`, of which t must follow first: what must follow after them.
+fn walk(s: &[u8], from: usize, to: usize, t: Rest) -> Follow
+    requires { ⌜ (from ≤ to) × (to ≤ length (now s)) ⌝ }
+    ensures { λ r. ⌜ octets (drop from (now (s .entry))) (ranges t) ≡ onto (followNext r) (λ next. octets (drop to (now (s .entry))) next) ⌝ }
+{
+    let mut t = t;
+    let mut i = from;
+    while i < to {
+        let b = s[i];
+        // the usual case, which leaves t as it is
+        if t.left == 0 {
+            if b < 0x80 {
+                i += 1;
+                continue;
+            }
+        }
+        match next_byte(t, b) {
+            Follow::Rest(n) => {
+                t = n;
+            }
+            Follow::Bad => {
+                return Follow::Bad;
+            }
+        }
+        i += 1;
+    }
+    Follow::Rest(t)
+}
+
+// The highest of 64 bytes, in a loop without an exit: the machine takes 16 of them at a time.
+fn highest(s: &[u8], from: usize) -> u8
+    requires { ⌜ from + 64 ≤ length (now s) ⌝ }
+    ensures { λ r. ⌜ Upto (now (s .entry)) from 64 r ⌝ }
+{
+    let mut high = 0;
+    let mut k = 0;
+    while k < 64 {
+        let b = s[from + k];
+        if high < b {
+            high = b;
+        }
+        k += 1;
+    }
+    high
+}
+
+// Where the bytes below 0x80 end that start at `from`, 64 at a time: each is a character of its own.
+fn skip(s: &[u8], from: usize) -> usize
+    requires { ⌜ from ≤ length (now s) ⌝ }
+    ensures { λ r. ⌜ (from ≤ r) × (r ≤ length (now (s .entry))) × (octets (drop from (now (s .entry))) [] ≡ octets (drop r (now (s .entry))) []) ⌝ }
+{
+    let mut i = from;
+    while 64 <= s.len() - i {
+        if 0x80 <= highest(s, i) {
+            return i;
+        }
+        i += 64;
+    }
+    i
+}
+
+// Where `walk` has to start: most names are bytes below 0x80 alone, and they are passed over where no character is begun.
+fn start(s: &[u8], from: usize, t: Rest) -> usize
+    requires { ⌜ from ≤ length (now s) ⌝ }
+    ensures { λ r. ⌜ (from ≤ r) × (r ≤ length (now (s .entry))) × (octets (drop from (now (s .entry))) (ranges t) ≡ octets (drop r (now (s .entry))) (ranges t)) ⌝ }
+{
+    if t.left == 0 { skip(s, from) } else { from }
+}
+
+// Where `walk` stops to let `start` look again: often enough for a name with few other characters, and seldom enough to cost nothing
+// in one with many.
+fn stop(len: usize, from: usize) -> usize
+    requires { ⌜ from ≤ len ⌝ }
+    ensures { λ r. ⌜ (from ≤ r) × (r ≤ len) × (from < len → from < r) ⌝ }
+{
+    if 4096 <= len - from { from + 4096 } else { len }
+}
+
 // Whether the bytes are UTF-8.
 pub fn from_utf8(s: &[u8]) -> bool
     ensures { λ r. ⌜ r ≡ utf8 (now (s .entry)) ⌝ }
@@ -87,7 +168,9 @@ pub fn from_utf8(s: &[u8]) -> bool
     };
     let mut i = 0;
     while i < s.len() {
-        match next_byte(t, s[i]) {
+        let from = start(s, i, t);
+        let to = stop(s.len(), from);
+        match walk(s, from, to, t) {
             Follow::Rest(n) => {
                 t = n;
             }
@@ -95,7 +178,7 @@ pub fn from_utf8(s: &[u8]) -> bool
                 return false;
             }
         }
-        i += 1;
+        i = to;
     }
     t.left == 0
 }

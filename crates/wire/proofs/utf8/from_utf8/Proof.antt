@@ -1,16 +1,17 @@
-use Prim.Native.Nat.{_≤_, _-_}
+-- `utf8::from_utf8` meets its contract. Assumes nothing.
+use Prim.Native.Nat.{ℕ, _<_, _≤_, _-_}
+use native.Mathlib.Nat.{le-trans, le-of-eq, eq-or-lt-of-le}
+use mathlib.Core.Logic.{⊎-elim}
 use mathlib.Core.Path.{_≡_, refl, sym, ap, _∙_}
-use lib.ListN.{length, getD, drop}
+use lib.ListN.{length, drop}
 use borrow.Author.Needs.{needs}
 use native.Mathlib.Omega.{arith}
-use Rattle.wire.specs.Utf8.{octets, utf8}
+use Rattle.wire.specs.declared.utf8.Follow.{Follow}
+use Rattle.wire.specs.Utf8.{octets, utf8, onto}
 use Rattle.wire.specs.Utf8State.{ranges, restOf, followNext}
-use Rattle.wire.proofs.Laws.{octets-go, octets-stop, octets-end}
+use Rattle.wire.proofs.Laws.{octets-end}
 use Rattle.wire.proofs.utf8.from_utf8.Statement.{statement}
 use Rattle.wire.proofs.utf8.from_utf8.Tie as tie
-use Rattle.wire.proofs.utf8.from_utf8.Reads as reads
-use Rattle.wire.proofs.utf8.from_utf8.Lts as lts
-use Rattle.wire.proofs.utf8.next_byte.Reads as next-byte-reads
 
 abbrev Inv-loop : tie.InvT-loop
 Inv-loop s t₀ i₀ t i = (i ≤ length s) × (octets (drop i s) (ranges t) ≡ utf8 s)
@@ -18,60 +19,58 @@ Inv-loop s t₀ i₀ t i = (i ≤ length s) × (octets (drop i s) (ranges t) ≡
 abbrev μ-loop : tie.MeasureT-loop
 μ-loop s t₀ i₀ t i = length s - i
 
--- src/utf8.rt:89:5
+less : (l i from to : ℕ) → i < l → i ≤ from → from ≤ l → (from ≤ to) × (to ≤ l) × (from < l → from < to) → l - to < l - i
+less l i from to h f g u = ⊎-elim (λ e. ends l i to h (le-trans (le-of-eq (sym e)) (u .0))) (λ k. goes l i from to f (u .2 k) (u .1)) (eq-or-lt-of-le g)
+  where
+    ends : (l i to : ℕ) → i < l → l ≤ to → l - to < l - i
+    ends l i to h k = omega arith
+
+    goes : (l i from to : ℕ) → i ≤ from → from < to → to ≤ l → l - to < l - i
+    goes l i from to f k u = omega arith
+
 loop-holds : tie.Need-loop-holds Inv-loop μ-loop
 unfolding restOf
-loop-holds c =
-    (search needs, refl)
+loop-holds c = (search needs, refl)
 
--- src/utf8.rt:90:28
-shared-slice-read-next-byte : tie.Need-shared-slice-read-next-byte Inv-loop μ-loop
-shared-slice-read-next-byte c =
-    search needs
+start-requires : tie.Need-start-requires Inv-loop μ-loop
+start-requires c κs = search needs
 
--- src/utf8.rt:90:15
-next-byte-requires : tie.Need-next-byte-requires Inv-loop μ-loop
-next-byte-requires c κs =
-    search needs
+stop-requires : tie.Need-stop-requires Inv-loop μ-loop
+stop-requires c κs = search needs
 
--- src/utf8.rt:91:26
+walk-requires : tie.Need-walk-requires Inv-loop μ-loop
+walk-requires c κs = search needs
+
 enum-known-n : tie.Need-enum-known-n Inv-loop μ-loop
-enum-known-n c =
-    search needs
+enum-known-n c = search needs
 
--- src/utf8.rt:95:17
 enum-told : tie.Need-enum-told Inv-loop μ-loop
-enum-told c =
-    search needs
+enum-told c = search needs
 
--- src/utf8.rt:95:17
 returns : tie.Need-returns Inv-loop μ-loop
 returns c =
-    let b2 = c .before .before in
-    let b4 = b2 .before .before in
-    let b5 = b4 .before in
-    sym (sym (b5 .loop .inv .1) ∙ octets-stop _ _ _ (b4 .loop-test .taken) (sym (b2 .next-byte .ensures) ∙ ap followNext (c .enum-told .given .1)))
+    let n = c .before .before in
+    let w = n .before .before in
+    let a = w .before .before in
+    let s = a .before .before .args .s .now in
+    sym (sym (a .loop .inv .1) ∙ w .start .ensures .2 ∙ n .walk .ensures ∙ ap (λ (f : Follow). onto (followNext f) (λ next. octets (drop (n .before .stop .result) s) next)) (c .enum-told .given .1))
 
--- src/utf8.rt:98:9
-add-i : tie.Need-add-i Inv-loop μ-loop
-add-i c =
-    search needs
-
--- src/utf8.rt:89:5
 loop-less : tie.Need-loop-less Inv-loop μ-loop
 loop-less c =
-    search needs
+    let n = c .before .before .before in
+    let w = n .before .before in
+    let a = w .before .before in
+    less _ (a .loop .i) (w .start .result) (n .before .stop .result) (w .before .loop-test .taken) (w .start .ensures .0) (w .start .ensures .1) (n .before .stop .ensures)
 
--- src/utf8.rt:89:5
 loop-again : tie.Need-loop-again Inv-loop μ-loop
 loop-again c =
-    let b1 = c .before in
-    let b3 = b1 .before .before in
-    let b5 = b3 .before .before in
-    let b6 = b5 .before in
-    (omega arith, sym (octets-go _ _ _ _ (b5 .loop-test .taken) (sym (b3 .next-byte .ensures) ∙ ap followNext (b1 .n .given .1))) ∙ b6 .loop .inv .1)
+    let b = c .before in
+    let n = b .before .before in
+    let w = n .before .before in
+    let a = w .before .before in
+    let s = a .before .before .args .s .now in
+    (n .before .stop .ensures .1, sym (w .start .ensures .2 ∙ n .walk .ensures ∙ ap (λ (f : Follow). onto (followNext f) (λ next. octets (drop (n .before .stop .result) s) next)) (b .n .given .1)) ∙ a .loop .inv .1)
 
--- src/utf8.rt:80:1
 returns-2 : tie.Need-returns-2 Inv-loop μ-loop
 returns-2 c =
     let b1 = c .before in
@@ -85,12 +84,12 @@ from-utf8-spec =
     Inv-loop
     μ-loop
     loop-holds
-    shared-slice-read-next-byte
-    next-byte-requires
+    start-requires
+    stop-requires
+    walk-requires
     enum-known-n
     enum-told
     returns
-    add-i
     loop-less
     loop-again
     returns-2)
