@@ -12,7 +12,7 @@ use Rattle.table.specs.Encode.{encode}
 use Rattle.table.specs.Rewrite.{rewriting, rewritten}
 use Rattle.player.specs.declared.bracket.Bracket.{Bracket}
 use Rattle.player.specs.F32.{nearest}
-use Rattle.player.specs.Wave.{quarterOf}
+use Rattle.wave_table.specs.Wave.{quarterOf}
 use Rattle.player.specs.Phase.{advanceOf}
 use Rattle.player.specs.Rng.{newRng, nextBipolar}
 use Rattle.player.specs.Bracket.{bracketOf}

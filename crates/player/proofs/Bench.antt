@@ -8,7 +8,7 @@ use lib.Ieee.Exact.{HasValue}
 use Rattle.player.specs.F32.{nearest}
 use Rattle.player.specs.Phase.{advanceOf}
 use Rattle.player.specs.Rng.{bipolarOf, newRng, nextBipolar}
-use Rattle.player.specs.Wave.{quarterOf}
+use Rattle.wave_table.specs.Wave.{quarterOf}
 use Rattle.player.specs.Bracket.{notAbove, neighbours, bracketOf}
 use Rattle.player.specs.declared.bracket.Bracket.{Bracket}
 

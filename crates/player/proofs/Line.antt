@@ -11,7 +11,8 @@ use mir.Syntax.{w32}
 use mir.Val.{SFits, toZ, ofZ}
 use mir.ValLaws.{toZ-ofZ}
 use Rattle.float.proofs.Ints.{abs-minus, abs-sfits, abs-in-float}
-use Rattle.player.specs.Wave.{waveOf, placeOf, cellOf, sineOf}
+use Rattle.wave_table.specs.Wave.{waveOf}
+use Rattle.player.specs.Wave.{placeOf, cellOf, sineOf}
 use Rattle.player.proofs.Quarters.{wave-abs}
 
 wider : (n : ℕ) → n ≤ 8388608 → n ≤ 16777216

@@ -7,10 +7,11 @@ use Prim.Native.Nat.{ℕ, zero, suc, _+_, _*_, _%_, _≤_, _<_}
 use native.Mathlib.Numerals.{add-one}
 use native.Mathlib.Nat.{add-zero, add-suc, suc-add, zero-add, suc-mul, one-mul, mul-le-mul-right, mod-lt, eq-or-lt-of-le}
 use native.Mathlib.Omega.{arith}
+use lib.Ieee.{Float, nan}
 use lib.ListN.{length, take, drop, getD, set, length-append, drop-of-length-le}
 use lib.Seq.{drop-cons, set-at, take-at, drop-at, drop-drop}
 use Rattle.player.specs.Lists.{mapTo, upTo, steps, joinTo, every}
-use Rattle.player.specs.Input.{InputFits}
+use Rattle.player.specs.Input.{InputFits, inputAt, startOf}
 use Rattle.player.specs.declared.input.Input.{Input}
 
 module _ {A : Type 0} (f : ℕ → A → A) (d : A) where
@@ -93,17 +94,35 @@ row-below a k n i h l =
     let m : suc a * n ≤ k * n = mul-le-mul-right n h in
     omega arith
 
+pub row-end : (c k n : ℕ) → c < k → c * n + n ≤ k * n
+row-end c k n h =
+    let s = suc-mul c n in
+    let m : suc c * n ≤ k * n = mul-le-mul-right n h in
+    omega arith
+
 -- what a connected input of k channels has at sample i of a block of n
 pub input-index : (inp : Input) (k n len ch i : ℕ) → inp ≡ Input.Channels k → InputFits inp n len → i < n → (0 < k) × ((ch % k) * n + i < len)
 input-index inp k n len ch i e h l =
     let g : InputFits (Input.Channels k) n len = rw e at h in
     (omega arith, rw (← g .2) (row-below (ch % k) k n i (mod-lt ch (omega arith)) l))
 
-pub row-end : (c k n : ℕ) → c < k → c * n + n ≤ k * n
-row-end c k n h =
-    let s = suc-mul c n in
-    let m : suc c * n ≤ k * n = mul-le-mul-right n h in
-    omega arith
+-- the part of channel ch ends inside
+pub input-end : (inp : Input) (k n len ch : ℕ) → inp ≡ Input.Channels k → InputFits inp n len → (0 < k) × ((ch % k) * n ≤ len)
+input-end inp k n len ch e h =
+    let g : InputFits (Input.Channels k) n len = rw e at h in
+    let m : (ch % k) * n + n ≤ k * n = row-end (ch % k) k n (mod-lt ch (omega arith)) in
+    (omega arith, rw (← g .2) (omega arith))
+
+-- where the part of channel ch starts, and what is read at sample i of it
+pub input-place : (inp : Input) (k n len ch at i : ℕ) → inp ≡ Input.Channels k → InputFits inp n len → at ≡ startOf inp n ch → i < n → at + i < len
+unfolding startOf
+input-place inp k n len ch at i e h q l =
+    let p : startOf inp n ch ≡ (ch % k) * n = rw e in
+    rw (q, p) (input-index inp k n len ch i e h l .1)
+
+pub input-read : (inp : Input) (k n ch at i : ℕ) (s : List Float) (other : Float) → inp ≡ Input.Channels k → at ≡ startOf inp n ch → getD s (at + i) nan ≡ inputAt inp s n ch other i
+unfolding startOf inputAt
+input-read inp k n ch at i s other e q = rw (q, e)
 
 pub small-product : (k n : ℕ) → k ≤ 8 → n ≤ 128 → k * n ≤ 1024
 small-product k n h l =

@@ -11,8 +11,8 @@ use mir.Syntax.{w32}
 use mir.Val.{SFits, toZ, ofZ}
 use mir.ValLaws.{toZ-pos, toZ-ofZ}
 use Rattle.float.proofs.Ints.{abs-neg, minus-is, abs-sfits}
-use Rattle.player.specs.Wave.{quarterOf, waveOf}
-use Rattle.player.proofs.Entries.{small}
+use Rattle.wave_table.specs.Wave.{quarterOf, waveOf}
+use Rattle.wave_table.proofs.Entries.{small}
 
 wide : (n : ℕ) → n ≤ 8388608 → n < 2147483648
 wide n h = omega arith

@@ -4,10 +4,10 @@ use mathlib.Core.Logic.{_⊎_, inl, inr}
 use mathlib.Core.List.{List}
 use lib.ListN.{getD}
 use Prim.Native.Nat.{ℕ, zero, suc, _+_, _-_, _*_, _≤_, _<_}
-use native.Mathlib.Nat.{le-of-eq, lt-of-lt-of-le, lt-irrefl, mul-pos, zero-mul, mul-assoc, mul-comm, mul-left-comm, zero-add}
+use native.Mathlib.Nat.{le-of-eq, le-of-lt, lt-of-lt-of-le, lt-irrefl, mul-pos, zero-mul, mul-assoc, mul-comm, mul-left-comm, zero-add}
 use native.Mathlib.Omega.{arith}
 use mathlib.Core.Bool.{Bool, true, false, _&&_, cond}
-use lib.IntN.{ℤ}
+use lib.IntN.{ℤ, pos}
 use lib.Dec.{T, ltb, lt→ltb, eqb, eqb→eq, lit≤, lit<}
 use lib.Ieee.{Float, nan, inf, fin, Format, binary32, up, down, round, sum, add, sub, mul, neg, lt, le, eq, fits}
 use lib.Ieee.Fits.{up-pos, down-pos, and-l}
@@ -138,6 +138,19 @@ plain-phase p inc h i = let t = both-true (le (nearest 0 1) p) (lt p (nearest 1 
 -- LAW: the sum of a phase and a step
 pub sum-ok : (p inc : Float) → phaseOk p ≡ true → Step inc → Within 16777216 1 (p ⊕ inc)
 sum-ok p inc h i = let q = plain-phase p inc h i in subst (λ (z : Float). Within 16777216 1 z) (sym (q .2)) (sum-small (q .0) inc (q .1) i)
+
+-- LAW: a phase and a step of at most 31/32 sum to less than 2
+pub sum-under-two : (p inc : Float) → phaseOk p ≡ true → Step inc → le inc (nearest 31 32) ≡ true → T (lt (p ⊕ inc) (fin false 1 (pos 1)))
+unfolding round
+sum-under-two p inc h i l =
+    let q = plain-phase p inc h i in
+    let x = q .0 ⊕ inc in
+    let I : Within 31 32 inc = record { plain-is = i .plain-is; upper = le→cross inc (nearest 31 32) (i .plain-is) tt (hold _ l) } in
+    let W : Within 63 32 x = add-within binary32 (q .0) inc 1 1 31 32 63 32 (lit< tt) (lit< tt) (lit< tt) (refl, refl) (record { plain-is = q .1 .plain-is; upper = le-of-lt (q .1 .strict) }) I (lit≤ tt) in
+    subst (λ (z : Float). T (lt z (fin false 1 (pos 1)))) (sym (q .2)) (cross→lt x (fin false 1 (pos 1)) (W .plain-is) tt (under (num x) (den x) (den-pos x) (W .upper)))
+  where
+    under : (n d : ℕ) → 0 < d → n * 32 ≤ 63 * d → n * 1 < 2 * d
+    under n d D h = omega arith
 
 -- LAW: a phase that passes the test steps to one with no sign
 pub advance-ok : (p inc : Float) → phaseOk p ≡ true → Step inc → Phase (advanceOf p inc)

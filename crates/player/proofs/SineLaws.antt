@@ -18,8 +18,9 @@ use Rattle.float.proofs.Fraction.{fraction-value, whole-is}
 use Rattle.float.proofs.Bounds.{round-neg, mul-neg, int-within}
 use Rattle.float.proofs.Mag.{within-mag, int-mag, mul-mag, add-mag}
 use Rattle.player.specs.Phase.{Phase}
-use Rattle.player.specs.Wave.{placeOf, cellOf, restOf, quarterOf, waveOf, sineOf}
-use Rattle.player.proofs.Every.{upTo-is}
+use Rattle.wave_table.specs.Wave.{quarterOf, waveOf}
+use Rattle.player.specs.Wave.{placeOf, cellOf, restOf, sineOf}
+use Rattle.wave_table.proofs.Every.{upTo-is}
 use Rattle.player.proofs.Apart.{signed, plain-signed, neg-signed, add-apart}
 
 -- p is below 1

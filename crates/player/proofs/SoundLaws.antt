@@ -46,69 +46,9 @@ abbrev pub mixOf : List BiquadState → Float → Mix
 mixOf ms y = record { memories = ms; sample = y }
 
 -- ---- one sample
--- what `fixed_of` and `pitch_at` hand over is the voice's
+-- what `fixed_of` hands over is the voice's
 abbrev pub FixedOf : Voice → Fixed → Type 0
 FixedOf v x = (x .blend ≡ v .blend) × (x .k ≡ v .k) × (x .m ≡ v .m) × (x .inv ≡ inverseOf (v .«sample_rate»)) × (x .nyquist ≡ v .«sample_rate» ⊗ nearest 1 2)
-
-abbrev pub PitchOf : Voice → Float → Pitch → Type 0
-PitchOf v f0 p = (p .f0 ≡ f0) × (p .s ≡ sidesAt v f0) × (p .stretch ≡ between (v .stretch) (p .s)) × (p .mainlobe ≡ between (v .«mainlobe_gain») (p .s)) × (p .«noise_gain» ≡ between (v .«noise_gain») (p .s))
-
-module _ (v : Voice) (f0 : Float) (g : List Float) where
-  -- what `tone_of` ensures is the sum of the partials
-  pub tone-is : (ps : List Float) (x : Fixed) (p : Pitch) (y : Float) → FixedOf v x → PitchOf v f0 p
-      → y ≡ steps (λ i y. pick (eqb (x .blend) 0) (addSingle y (partialRow (v .partials) (p .s) 0 i) (p .mainlobe) (nyquistFade (partialFreq (i + 1) (p .f0) (p .stretch)) (x .nyquist)) (getD g 0 nan) (advanceOf (getD ps i nan) (stepOf (i + 1) (p .f0) (p .stretch) (x .inv)))) (addBlend y (blendCoeff (λ q. partialRow (v .partials) (p .s) q i) g (x .k)) (p .mainlobe) (nyquistFade (partialFreq (i + 1) (p .f0) (p .stretch)) (x .nyquist)) (advanceOf (getD ps i nan) (stepOf (i + 1) (p .f0) (p .stretch) (x .inv))))) (nearest 0 1) (x .m)
-      → y ≡ partialSum v f0 g ps
-  unfolding partialSum partialTerm
-  tone-is ps x p y X P e = e ∙ rw (X .0, X .1, X .2, X .3, X .4, P .2, P .3, P .1, P .0)
-
-  pub phases-is : (ps ls : List Float) (x : Fixed) (p : Pitch) → FixedOf v x → PitchOf v f0 p → ls ≡ mapTo (λ i ph. advanceOf ph (stepOf (i + 1) (p .f0) (p .stretch) (x .inv))) 0 (x .m) ps → ls ≡ movedPhases v f0 ps
-  unfolding movedPhases
-  phases-is ps ls x p X P e = e ∙ rw (X .2, X .3, P .2, P .1, P .0)
-
-  -- what a turn of the loop over the live bands does
-  pub band-is : (x : Fixed) (p : Pitch) (n : Float) (l b : ℕ) (ms : List BiquadState) (y : Float) (t : Tick) (z : Float) → FixedOf v x → PitchOf v f0 p → b ≡ getD (v .live) l 0
-      → t ≡ tickOf (getD ms b noState) n (getD (v .bands) b noCoeffs)
-      → z ≡ pick (eqb (x .blend) 0) (addNoiseSingle y (noiseRow (v .noise) (p .s) 0 b) (getD g 0 nan) (p .«noise_gain») (getD (v .compensation) b nan) (t .y)) (addNoiseBlend y (blendPower (λ q. noiseRow (v .noise) (p .s) q b) g (x .k)) (p .«noise_gain») (getD (v .compensation) b nan) (t .y))
-      → mixOf (set ms b (t .state)) z ≡ bandStep v f0 g n (getD (v .live) l 0) (mixOf ms y)
-  unfolding bandStep noiseTerm
-  band-is x p n l b ms y t z X P eb et ez = rw (ez, et, X .0, X .1, P .4, P .1, eb)
-
-  pub mixed-again : (x : Float) (l : ℕ) (mix now next : Mix) → now ≡ mixed v f0 g x mix l → next ≡ bandStep v f0 g x (getD (v .live) l 0) now → next ≡ mixed v f0 g x mix (l + 1)
-  unfolding mixed
-  mixed-again x l mix now next e q = q ∙ steps-again (λ l mix. bandStep v f0 g x (getD (v .live) l 0) mix) mix now l e
-
-  pub mixed-none : (x : Float) (mix : Mix) → mix ≡ mixed v f0 g x mix 0
-  unfolding mixed steps
-  mixed-none x mix = refl
-
-  -- no gain enters the memories
-  mixed-memories : (r : Rng) (ms : List BiquadState) (y : Float) (n : ℕ) →
-      mixed v f0 g (noiseIn r) (mixOf ms y) n .memories
-      ≡ steps (λ l ms. set ms (getD (v .live) l 0) (tickOf (getD ms (getD (v .live) l 0) noState) (noiseIn r) (getD (v .bands) (getD (v .live) l 0) noCoeffs) .state)) ms n
-  unfolding mixed steps bandStep
-  mixed-memories r ms y zero = refl
-  mixed-memories r ms y (suc n) =
-      ap (λ (t : List BiquadState). set t (getD (v .live) n 0) (tickOf (getD t (getD (v .live) n 0) noState) (noiseIn r) (getD (v .bands) (getD (v .live) n 0) noCoeffs) .state)) (mixed-memories r ms y n)
-
-  -- LAW: the memories after a sample are those that no gain enters
-  pub mix-memories : (s : State) → mixAt v s f0 g .memories ≡ movedMemories v (s .rng) (s .memories)
-  unfolding mixAt movedMemories
-  mix-memories s = mixed-memories (s .rng) (s .memories) (partialSum v f0 g (s .phases)) (v .«live_count»)
-
-  -- the loops' results are the sample and the state after it
-  module _ (ps ls : List Float) (ms ns : List BiquadState) (r q : Rng) (tone x y : Float) (n : ℕ) (C : eqb (v .count) 0 ≡ false) (et : tone ≡ partialSum v f0 g ps) (ex : x ≡ noiseIn r) (en : n ≡ v .«live_count»)
-      (em : mixOf ns y ≡ mixed v f0 g x (mixOf ms tone) n) where
-    mix-is : mixOf ns y ≡ mixAt v (stateOf ps ms r) f0 g
-    unfolding mixAt
-    mix-is = em ∙ rw (et, ex, en)
-
-    pub sound-is : y ≡ sound v (stateOf ps ms r) f0 g
-    unfolding sound
-    sound-is = rw C (ap (λ (m : Mix). m .sample) mix-is)
-
-    pub moved-is : ls ≡ movedPhases v f0 ps → q ≡ pick (eqb (v .«live_count») 0) r (nextBipolar r .rng) → stateOf ls ns q ≡ moved v f0 (stateOf ps ms r)
-    unfolding moved movedRng
-    moved-is ep eq = rw (C, ep, eq, ap (λ (m : Mix). m .memories) mix-is, mix-memories (stateOf ps ms r))
 
 -- ---- a channel
 module _ (v : Voice) (freq : ℕ → Float) (g : ℕ → List Float) where
@@ -120,10 +60,6 @@ module _ (v : Voice) (freq : ℕ → Float) (g : ℕ → List Float) where
   pub state-again : (i : ℕ) (s t : State) → s ≡ stateAt v freq i → t ≡ moved v (cleaned (freq i)) s → t ≡ stateAt v freq (i + 1)
   unfolding stateAt
   state-again i s t es et = et ∙ steps-again (λ t s. moved v (cleaned (freq t)) s) (v .state) s i es
-
-  pub state-first : v .state ≡ stateAt v freq 0
-  unfolding stateAt steps
-  state-first = refl
 
   pub out-first : (l : List Float) → l ≡ channelOut v freq g 0 ++ drop 0 l
   unfolding channelOut upTo
@@ -160,16 +96,10 @@ no-phase : (x : Float) → x ≡ nan → phaseOk x ≡ true → ⊥
 unfolding le lt eq round
 no-phase x e h = absurd (hold (phaseOk nan) (ap (λ (z : Float). phaseOk z) (sym e) ∙ h))
 
--- LAW: phases that pass the test step to phases that pass it
-pub phases-step : (m : ℕ) (f0 stretch inv : Float) (ps : List Float) → m ≤ 32 → Within 20000 1 f0 → Within 8 1 stretch → Within 1 4096 inv → phasesOk ps m ≡ true
-    → phasesOk (mapTo (λ i p. advanceOf p (stepOf (i + 1) f0 stretch inv)) 0 m ps) m ≡ true
+-- a phase that passes the test is in the list
+pub phase-inside : (ps : List Float) (m i : ℕ) → phasesOk ps m ≡ true → i < m → i < length ps
 unfolding phasesOk
-phases-step m f0 stretch inv ps M F S I h =
-    at-every (λ i. phaseOk (getD (mapTo (λ i p. advanceOf p (stepOf (i + 1) f0 stretch inv)) 0 m ps) i nan)) m
-    (λ i l.
-    let o = every-at (λ i. phaseOk (getD ps i nan)) m i h l in
-    ap (λ (z : Float). phaseOk z) (mapTo-at (λ i p. advanceOf p (stepOf (i + 1) f0 stretch inv)) nan m i ps l (inside ps i (λ e. no-phase (getD ps i nan) e o)))
-    ∙ phase-passes _ (advance-ok (getD ps i nan) (stepOf (i + 1) f0 stretch inv) o (step-small (i + 1) f0 stretch inv (omega arith) F S I)))
+phase-inside ps m i h l = inside ps i (λ e. no-phase (getD ps i nan) e (every-at (λ i. phaseOk (getD ps i nan)) m i h l))
 
 -- LAW: the frequency that is played is from 0 to 20,000 where question 16 is answered yes
 pub cleaned-within : (f : Float) → frequencyOk f ≡ true → Within 20000 1 (cleaned f)
@@ -221,10 +151,3 @@ live-below v l F h = let b : getD (v .live) l 0 < v .j = ltb-true _ _ (every-at 
 
 pub inverse-small : (v : Voice) → Facts v → Within 1 4096 (inverseOf (v .«sample_rate»))
 inverse-small v F = inverse-within (v .«sample_rate») (F .rate)
-
--- what `tone_of` leaves passes the test of phases
-pub phases-keep : (v : Voice) (f0 : Float) (ps ls : List Float) (x : Fixed) (p : Pitch) → Facts v → FixedOf v x → PitchOf v f0 p → Within 20000 1 f0 → Within 8 1 (p .stretch)
-    → ls ≡ mapTo (λ i ph. advanceOf ph (stepOf (i + 1) (p .f0) (p .stretch) (x .inv))) 0 (x .m) ps → phasesOk ps (v .m) ≡ true → phasesOk ls (v .m) ≡ true
-phases-keep v f0 ps ls x p F X P W S e h =
-    let q : mapTo (λ i ph. advanceOf ph (stepOf (i + 1) (p .f0) (p .stretch) (x .inv))) 0 (x .m) ps ≡ mapTo (λ i ph. advanceOf ph (stepOf (i + 1) f0 (p .stretch) (inverseOf (v .«sample_rate»)))) 0 (v .m) ps = rw (P .0, X .3, X .2) in
-    ap (λ (z : List Float). phasesOk z (v .m)) (e ∙ q) ∙ phases-step (v .m) f0 (p .stretch) (inverseOf (v .«sample_rate»)) ps (F .sizes .1) W S (inverse-small v F) h

@@ -1,6 +1,7 @@
 -- How loud white noise comes out of a band: the filter is rung once and its squares are summed. The compensation makes up for it.
 use Prim.Native.Nat.{ℕ, zero, suc, min, max}
-use lib.Ieee.{Float, toUnsigned}
+use mathlib.Core.Bool.{Bool, true, false, _&&_}
+use lib.Ieee.{Float, nan, inf, fin, toUnsigned}
 use Rattle.float.specs.Order.{maximum}
 use Rattle.float.specs.Sqrt.{sqrt}
 use Rattle.player.specs.F32.{_⊕_, _⊗_, _⊘_, nearest}
@@ -43,6 +44,18 @@ rungOutput c i = tickOf (rungState c i) (impulse i) c .y
 unfoldable pub rungPower : BiquadCoeffs → ℕ → Float
 rungPower c zero = nearest 0 1
 rungPower c (suc i) = rungPower c i ⊕ rungOutput c i ⊗ rungOutput c i
+
+-- 0 with no sign
+abbrev pub plusZero : Float → Bool
+plusZero nan = false
+plusZero (inf s) = false
+plusZero (fin true m e) = false
+plusZero (fin false zero e) = true
+plusZero (fin false (suc m) e) = false
+
+-- at an input of 0 the first two coefficients add +0, as those of a voice's band-pass do
+unfoldable pub quiet : BiquadCoeffs → Bool
+quiet c = plusZero (c .b0 ⊗ nearest 0 1) && plusZero (c .b1 ⊗ nearest 0 1)
 
 -- a band rung n times: the power, and the n rung
 abbrev pub rung : BiquadCoeffs → ℕ → NoisePower

@@ -16,6 +16,11 @@ unfoldable pub inputAt : Input → List Float → ℕ → ℕ → Float → ℕ 
 inputAt Input.Unconnected s n ch other i = other
 inputAt (Input.Channels k) s n ch other i = getD s ((ch % k) * n + i) nan
 
+-- where the part of the slice that output channel ch reads starts
+unfoldable pub startOf : Input → ℕ → ℕ → ℕ
+startOf Input.Unconnected n ch = 0
+startOf (Input.Channels k) n ch = (ch % k) * n
+
 -- unconnected inputs: the frequency is 220; gain 0 is 1, the others 0
 abbrev pub frequencyAt : Input → List Float → ℕ → ℕ → ℕ → Float
 frequencyAt freq s n ch i = inputAt freq s n ch (nearest 220 1) i

@@ -1,5 +1,6 @@
 pub mod F32
 pub mod Wave
+pub mod Sines
 pub mod Phase
 pub mod Share
 pub mod Rng
@@ -12,6 +13,8 @@ pub mod Input
 pub mod Bracket
 pub mod Voice
 pub mod Sound
+pub mod Columns
 pub mod Block
 pub mod Play
 pub mod Band
+pub mod Tuning

@@ -9,7 +9,7 @@ use crate::compensation::noise_power_compensation;
 use crate::filters::BiquadCoeffs;
 use crate::filters::band_center;
 use crate::filters::noise_band;
-use crate::wave::table;
+use wave_table::table;
 
 #[repr(C)]
 pub struct Band {

@@ -8,17 +8,27 @@ ghost use Rattle.player.specs.Lists.{upTo};
 ghost use Rattle.player.specs.Input.{InputFits, frequenciesOk, frequencyAt, gains, gainsAt};
 ghost use Rattle.player.specs.Voice.{keepsRules};
 ghost use Rattle.player.specs.Block.{stateAt, channelOut};
+use crate::bands::gather_coeffs;
+use crate::bands::gather_makeup;
+use crate::bands::gather_memories;
+use crate::bands::scatter_memories;
+use crate::bands::tick_bands;
 use crate::fixed::fixed_of;
+use crate::input::GainStarts;
 use crate::input::Input;
 use crate::input::frequency_at;
 use crate::input::gains_at;
-use crate::noise::add_noise;
+use crate::input::start_of;
 use crate::noise::noise_step;
-use crate::pitch::pitch_at;
-use crate::tone::tone_of;
+use crate::noise::noise_sum;
+use crate::phases::move_phases;
+use crate::sines::sines_of;
+use crate::tone::tone_sum;
+use crate::tuning::tune;
+use crate::tuning::untuned;
 use crate::voice::State;
 use crate::voice::Voice;
-use crate::wave::table;
+use wave_table::waves;
 
 fn silence(samples: usize, out: &mut [f32])
     requires { ⌜ length (now out) ≡ samples ⌝ }
@@ -31,7 +41,8 @@ fn silence(samples: usize, out: &mut [f32])
     }
 }
 
-// A voice that has an entry. The arrays that move are copied once, before the samples.
+// A voice that has an entry. What moves, and what the samples share, is laid out in columns once, before the samples; `terms`, `rests`, `freqs`,
+// `sines`, `coeffs` and `ys` are only worked in.
 fn sounding(
     voice: Voice,
     samples: usize,
@@ -53,43 +64,147 @@ fn sounding(
     ensures { λ r. ⌜ r ≡ stateAt voice (frequencyAt freq (now («freq_s» .entry)) samples ch) samples ⌝ }
     ensures { λ r. ⌜ now (out .exit) ≡ channelOut voice (frequencyAt freq (now («freq_s» .entry)) samples ch) (gainsAt (gains g0 (now («g0_s» .entry)) g1 (now («g1_s» .entry)) g2 (now («g2_s» .entry)) g3 (now («g3_s» .entry))) samples ch) samples ⌝ }
 {
-    let wave = table();
+    let wave = waves();
     let v = fixed_of(voice.blend, voice.k, voice.m, voice.sample_rate);
     let state = voice.state;
+    let memories = state.memories;
     let bands = voice.bands;
+    let at = start_of(freq, freq_s.len(), samples, ch);
+    let gains_from = GainStarts {
+        g0: start_of(g0, g0_s.len(), samples, ch),
+        g1: start_of(g1, g1_s.len(), samples, ch),
+        g2: start_of(g2, g2_s.len(), samples, ch),
+        g3: start_of(g3, g3_s.len(), samples, ch),
+    };
+    let mut z1: [f32; 32] = [0.0; 32];
+    let mut z2: [f32; 32] = [0.0; 32];
+    let mut b0: [f32; 32] = [0.0; 32];
+    let mut b1: [f32; 32] = [0.0; 32];
+    let mut b2: [f32; 32] = [0.0; 32];
+    let mut a1: [f32; 32] = [0.0; 32];
+    let mut a2: [f32; 32] = [0.0; 32];
+    let mut makeup: [f32; 32] = [0.0; 32];
+    let mut ys: [f32; 32] = [0.0; 32];
+    let mut freqs: [f32; 32] = [0.0; 32];
+    let mut incs: [f32; 32] = [0.0; 32];
+    let mut fades: [f32; 32] = [0.0; 32];
+    let mut sines: [f32; 32] = [0.0; 32];
+    let mut terms: [f32; 32] = [0.0; 32];
+    let mut rests: [f32; 32] = [0.0; 32];
+    let mut coeffs: [f32; 32] = [0.0; 32];
+    let mut rows: [f32; 128] = [0.0; 128];
+    let mut band_rows: [f32; 128] = [0.0; 128];
+    gather_memories(&mut z1, &mut z2, memories, &voice.live, voice.live_count);
+    gather_coeffs(
+        &mut b0,
+        &mut b1,
+        &mut b2,
+        &mut a1,
+        &mut a2,
+        bands,
+        &voice.live,
+        voice.live_count,
+    );
+    gather_makeup(
+        &mut makeup,
+        &voice.compensation,
+        &voice.live,
+        voice.live_count,
+    );
     let mut phases = state.phases;
-    let mut memories = state.memories;
     let mut rng = state.rng;
+    let mut t = untuned();
     let mut i = 0;
     while i < samples {
-        let f0 = frequency_at(freq, freq_s, samples, ch, i);
-        let g = gains_at(g0, g0_s, g1, g1_s, g2, g2_s, g3, g3_s, samples, ch, i);
-        let p = pitch_at(
+        let f0 = frequency_at(freq, freq_s, samples, ch, at, i);
+        let g = gains_at(
+            g0,
+            g0_s,
+            g1,
+            g1_s,
+            g2,
+            g2_s,
+            g3,
+            g3_s,
+            samples,
+            ch,
+            gains_from,
+            i,
+        );
+        t = tune(
+            t,
+            f0,
+            &mut freqs,
+            &mut incs,
+            &mut fades,
+            &mut rows,
+            &mut band_rows,
+            v,
+            voice.count,
+            voice.live_count,
             &voice.f0_hz,
             &voice.stretch,
             &voice.mainlobe_gain,
             &voice.noise_gain,
-            voice.count,
-            f0,
+            &voice.partials,
+            &voice.noise,
+            &voice.live,
         );
-        let mut y = tone_of(&mut phases, &voice.partials, &wave, &g, v, p);
+        move_phases(&mut phases, &incs, voice.m, t.small);
+        sines_of(
+            &mut sines,
+            &mut terms,
+            &mut rests,
+            &mut coeffs,
+            &phases,
+            &wave,
+            voice.m,
+        );
+        let tone = tone_sum(
+            &mut terms,
+            &mut coeffs,
+            &rows,
+            t.mainlobe,
+            &fades,
+            &g,
+            &sines,
+            voice.blend,
+            voice.k,
+            voice.m,
+        );
         let next = noise_step(voice.live_count, rng);
-        let mut l = 0;
-        while l < voice.live_count {
-            let b = voice.live[l];
-            let t = memories[b].tick(next.value, bands[b]);
-            let after = t.state;
-            memories[b] = after;
-            y = add_noise(&voice.noise, &voice.compensation, &g, v, p, b, y, t.y);
-            l += 1;
-        }
+        tick_bands(
+            &mut ys,
+            &mut z1,
+            &mut z2,
+            &b0,
+            &b1,
+            &b2,
+            &a1,
+            &a2,
+            next.value,
+            voice.live_count,
+        );
         rng = next.rng;
-        out[i] = y;
+        out[i] = noise_sum(
+            tone,
+            &mut terms,
+            &mut coeffs,
+            &band_rows,
+            &g,
+            voice.blend,
+            voice.k,
+            t.noise_gain,
+            &makeup,
+            &ys,
+            voice.live_count,
+        );
         i += 1;
     }
+    let after = scatter_memories(memories, &voice.live, &z1, &z2, voice.live_count);
     State {
         phases,
-        memories,
+        memories: after,
         rng,
     }
 }

@@ -1,7 +1,7 @@
 // Second-order band-pass filters: coefficients, memories, one sample.
 ghost use mathlib.Core.Path.{_≡_};
 ghost use Rattle.player.specs.Phase.{Phase};
-ghost use Rattle.player.specs.Wave.{Table};
+ghost use Rattle.wave_table.specs.Wave.{Table};
 ghost use Rattle.player.specs.Filters.{turn, turnQuarter, paramsOf, normalized, bandPass, centerOf, noiseBand, cleared, tickOf};
 ghost use Rattle.player.specs.Rate.{Rate};
 use crate::wave::sine;

@@ -2,7 +2,7 @@
 ghost use mathlib.Core.Path.{_≡_};
 ghost use Prim.Native.Nat.{_<_, _≤_};
 ghost use lib.ListN.{length};
-ghost use Rattle.player.specs.Input.{inputAt, frequencyAt, gains, gainsAt, InputFits, inputOk, cleaned};
+ghost use Rattle.player.specs.Input.{inputAt, frequencyAt, gains, gainsAt, InputFits, inputOk, cleaned, startOf};
 
 // Unconnected, or as many channels of the block's length in the slice beside it.
 pub enum Input {
@@ -10,17 +10,36 @@ pub enum Input {
     Channels(usize),
 }
 
-// What output channel ch reads at sample i.
-pub fn read_input(input: Input, s: &[f32], samples: usize, ch: usize, i: usize, other: f32) -> f32
+// Where the part of output channel ch starts: input channel ch modulo the input's channels.
+pub fn start_of(input: Input, len: usize, samples: usize, ch: usize) -> usize
+    requires { ⌜ InputFits input samples len ⌝ }
+    ensures { λ r. ⌜ r ≡ startOf input samples ch ⌝ }
+{
+    match input {
+        Input::Unconnected => 0,
+        Input::Channels(k) => (ch % k) * samples,
+    }
+}
+
+// What output channel ch reads at sample i. Its part starts at `at`, worked out once for all samples.
+pub fn read_input(
+    input: Input,
+    s: &[f32],
+    samples: usize,
+    ch: usize,
+    at: usize,
+    i: usize,
+    other: f32,
+) -> f32
     requires { ⌜ InputFits input samples (length (now s)) ⌝ }
-    requires { ⌜ i < samples ⌝ }
+    requires { ⌜ (at ≡ startOf input samples ch) × (i < samples) ⌝ }
     ensures { λ r. ⌜ r ≡ inputAt input (now (s .entry)) samples ch other i ⌝ }
 {
     match input {
         Input::Unconnected => other,
-        Input::Channels(k) => {
-            let at = (ch % k) * samples + i;
-            s[at]
+        Input::Channels(_) => {
+            let place = at + i;
+            s[place]
         }
     }
 }
@@ -54,12 +73,20 @@ pub fn input_ok(input: Input, samples: usize, len: usize) -> bool
 }
 
 // The frequency that output channel ch plays at sample i.
-pub fn frequency_at(freq: Input, s: &[f32], samples: usize, ch: usize, i: usize) -> f32
+pub fn frequency_at(freq: Input, s: &[f32], samples: usize, ch: usize, at: usize, i: usize) -> f32
     requires { ⌜ InputFits freq samples (length (now s)) ⌝ }
-    requires { ⌜ i < samples ⌝ }
+    requires { ⌜ (at ≡ startOf freq samples ch) × (i < samples) ⌝ }
     ensures { λ r. ⌜ r ≡ cleaned (frequencyAt freq (now (s .entry)) samples ch i) ⌝ }
 {
-    clean(read_input(freq, s, samples, ch, i, 220.0))
+    clean(read_input(freq, s, samples, ch, at, i, 220.0))
+}
+
+// Where the gains' parts start.
+pub struct GainStarts {
+    pub g0: usize,
+    pub g1: usize,
+    pub g2: usize,
+    pub g3: usize,
 }
 
 // The four gains of output channel ch at sample i.
@@ -74,15 +101,16 @@ pub fn gains_at(
     g3_s: &[f32],
     samples: usize,
     ch: usize,
+    at: GainStarts,
     i: usize,
 ) -> [f32; 4]
     requires { ⌜ (InputFits g0 samples (length (now «g0_s»))) × (InputFits g1 samples (length (now «g1_s»))) × (InputFits g2 samples (length (now «g2_s»))) × (InputFits g3 samples (length (now «g3_s»))) ⌝ }
-    requires { ⌜ i < samples ⌝ }
+    requires { ⌜ (at .g0 ≡ startOf g0 samples ch) × (at .g1 ≡ startOf g1 samples ch) × (at .g2 ≡ startOf g2 samples ch) × (at .g3 ≡ startOf g3 samples ch) × (i < samples) ⌝ }
     ensures { λ r. ⌜ r ≡ gainsAt (gains g0 (now («g0_s» .entry)) g1 (now («g1_s» .entry)) g2 (now («g2_s» .entry)) g3 (now («g3_s» .entry))) samples ch i ⌝ }
 {
-    let a = read_input(g0, g0_s, samples, ch, i, 1.0);
-    let b = read_input(g1, g1_s, samples, ch, i, 0.0);
-    let c = read_input(g2, g2_s, samples, ch, i, 0.0);
-    let d = read_input(g3, g3_s, samples, ch, i, 0.0);
+    let a = read_input(g0, g0_s, samples, ch, at.g0, i, 1.0);
+    let b = read_input(g1, g1_s, samples, ch, at.g1, i, 0.0);
+    let c = read_input(g2, g2_s, samples, ch, at.g2, i, 0.0);
+    let d = read_input(g3, g3_s, samples, ch, at.g3, i, 0.0);
     [a, b, c, d]
 }

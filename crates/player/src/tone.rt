@@ -1,67 +1,117 @@
 // The sum of the partials, of a single voice or of a blend.
 ghost use mathlib.Core.Path.{_≡_};
-ghost use mathlib.Core.Bool.{true};
-ghost use Prim.Native.Nat.{_≤_, _+_};
+ghost use Prim.Native.Nat.{_≤_, _<_, _+_, _*_};
 ghost use lib.ListN.{getD};
 ghost use lib.Dec.{eqb};
 ghost use lib.Ieee.{nan};
 ghost use Rattle.wire.specs.Parse.{pick};
-ghost use Rattle.float.specs.Range.{Within};
-ghost use Rattle.player.specs.F32.{nearest};
-ghost use Rattle.player.specs.Lists.{mapTo, steps};
-ghost use Rattle.player.specs.Wave.{Table};
-ghost use Rattle.player.specs.Fade.{nyquistFade};
-ghost use Rattle.player.specs.Phase.{advanceOf, partialFreq, stepOf};
-ghost use Rattle.player.specs.Voice.{phasesOk};
-ghost use Rattle.player.specs.Bracket.{SidesIn};
-ghost use Rattle.player.specs.Sound.{addSingle, addBlend, blendCoeff, partialRow};
-use crate::fixed::Fixed;
-use crate::partials::partials_single;
-use crate::partials_blend::partials_blend;
-use crate::pitch::Pitch;
+ghost use Rattle.player.specs.F32.{_⊕_, _⊗_, nearest};
+ghost use Rattle.player.specs.Lists.{Filled, steps};
+ghost use Rattle.player.specs.Sound.{blendCoeff};
+ghost use Rattle.player.specs.Tuning.{heard, added};
+use crate::columns::fill;
+use crate::columns::sum_of;
 
-pub fn tone_of<'a>(
-    phases: &mut [f32; 32],
-    partials: &'a [f32; 2048],
-    wave: &'a [u32; 257],
-    gains: &'a [f32; 4],
-    v: Fixed,
-    p: Pitch,
-) -> f32
-    requires { ⌜ Table (now wave) × SidesIn 16 (p .s) × (v .k ≤ 4) × (v .m ≤ 32) × (phasesOk (now phases) (v .m) ≡ true) ⌝ }
-    requires { ⌜ Within 20000 1 (p .f0) × Within 8 1 (p .stretch) × Within 1 4096 (v .inv) ⌝ }
-    ensures { λ r. ⌜ r ≡ steps (λ i y. pick (eqb (v .blend) 0) (addSingle y (partialRow (now (partials .entry)) (p .s) 0 i) (p .mainlobe) (nyquistFade (partialFreq (i + 1) (p .f0) (p .stretch)) (v .nyquist)) (getD (now (gains .entry)) 0 nan) (advanceOf (getD (now (phases .entry)) i nan) (stepOf (i + 1) (p .f0) (p .stretch) (v .inv)))) (addBlend y (blendCoeff (λ q. partialRow (now (partials .entry)) (p .s) q i) (now (gains .entry)) (v .k)) (p .mainlobe) (nyquistFade (partialFreq (i + 1) (p .f0) (p .stretch)) (v .nyquist)) (advanceOf (getD (now (phases .entry)) i nan) (stepOf (i + 1) (p .f0) (p .stretch) (v .inv))))) (nearest 0 1) (v .m) ⌝ }
-    ensures { λ r. ⌜ now (phases .exit) ≡ mapTo (λ i ph. advanceOf ph (stepOf (i + 1) (p .f0) (p .stretch) (v .inv))) 0 (v .m) (now (phases .entry)) ⌝ }
+// A single voice: the coefficient, and gain 0. A partial without a coefficient adds -0, which changes nothing.
+fn terms_single<'a>(
+    terms: &mut [f32; 32],
+    rows: &'a [f32; 128],
+    mainlobe: f32,
+    fades: &'a [f32; 32],
+    gain: f32,
+    sines: &'a [f32; 32],
+    m: usize,
+)
+    requires { ⌜ m ≤ 32 ⌝ }
+    ensures { λ r. ⌜ Filled (now (terms .exit)) (λ i. heard (getD (now (rows .entry)) i nan) (getD (now (rows .entry)) i nan ⊗ mainlobe ⊗ getD (now (fades .entry)) i nan ⊗ gain ⊗ getD (now (sines .entry)) i nan)) m ⌝ }
 {
-    if v.blend == 0 {
-        let gain = gains[0];
-        partials_single(
-            phases,
-            partials,
-            wave,
-            p.s,
-            v.m,
-            p.f0,
-            p.stretch,
-            p.mainlobe,
-            v.inv,
-            v.nyquist,
-            gain,
-        )
-    } else {
-        partials_blend(
-            phases,
-            partials,
-            wave,
-            gains,
-            v.k,
-            p.s,
-            v.m,
-            p.f0,
-            p.stretch,
-            p.mainlobe,
-            v.inv,
-            v.nyquist,
-        )
+    let ts = &mut terms[..];
+    let mut i = 0;
+    while i < m {
+        ts[i] = rows[i] * mainlobe * fades[i] * gain * sines[i];
+        if rows[i] == 0.0 {
+            ts[i] = -0.0;
+        }
+        i += 1;
     }
+}
+
+fn terms_blend<'a>(
+    terms: &mut [f32; 32],
+    coeffs: &'a [f32; 32],
+    mainlobe: f32,
+    fades: &'a [f32; 32],
+    sines: &'a [f32; 32],
+    m: usize,
+)
+    requires { ⌜ m ≤ 32 ⌝ }
+    ensures { λ r. ⌜ Filled (now (terms .exit)) (λ i. heard (getD (now (coeffs .entry)) i nan) (getD (now (coeffs .entry)) i nan ⊗ mainlobe ⊗ getD (now (fades .entry)) i nan ⊗ getD (now (sines .entry)) i nan)) m ⌝ }
+{
+    let ts = &mut terms[..];
+    let mut i = 0;
+    while i < m {
+        ts[i] = coeffs[i] * mainlobe * fades[i] * sines[i];
+        if coeffs[i] == 0.0 {
+            ts[i] = -0.0;
+        }
+        i += 1;
+    }
+}
+
+// One channel's share of every coefficient.
+fn add_row(coeffs: &mut [f32; 32], rows: &[f32; 128], q: usize, gain: f32, m: usize)
+    requires { ⌜ (q < 4) × (m ≤ 32) ⌝ }
+    ensures { λ r. ⌜ Filled (now (coeffs .exit)) (λ i. getD (now (coeffs .entry)) i nan ⊕ gain ⊗ getD (now (rows .entry)) (q * 32 + i) nan) m ⌝ }
+{
+    let cs = &mut coeffs[..];
+    let mut i = 0;
+    while i < m {
+        let at = q * 32 + i;
+        cs[i] = cs[i] + gain * rows[at];
+        i += 1;
+    }
+}
+
+// The sums of gains times coefficients over k channels.
+fn blend_coeffs<'a>(
+    coeffs: &mut [f32; 32],
+    rows: &'a [f32; 128],
+    gains: &'a [f32; 4],
+    k: usize,
+    m: usize,
+)
+    requires { ⌜ (k ≤ 4) × (m ≤ 32) ⌝ }
+    ensures { λ r. ⌜ Filled (now (coeffs .exit)) (λ i. blendCoeff (λ q. getD (now (rows .entry)) (q * 32 + i) nan) (now (gains .entry)) k) m ⌝ }
+{
+    fill(coeffs, m, 0.0);
+    let mut q = 0;
+    while q < k {
+        add_row(coeffs, rows, q, gains[q], m);
+        q += 1;
+    }
+}
+
+// `terms` and `coeffs` are lent to work in.
+pub fn tone_sum<'a>(
+    terms: &mut [f32; 32],
+    coeffs: &mut [f32; 32],
+    rows: &'a [f32; 128],
+    mainlobe: f32,
+    fades: &'a [f32; 32],
+    gains: &'a [f32; 4],
+    sines: &'a [f32; 32],
+    blend: u32,
+    k: usize,
+    m: usize,
+) -> f32
+    requires { ⌜ (k ≤ 4) × (m ≤ 32) ⌝ }
+    ensures { λ r. ⌜ r ≡ steps (λ i y. pick (eqb blend 0) (added y (getD (now (rows .entry)) i nan) (getD (now (rows .entry)) i nan ⊗ mainlobe ⊗ getD (now (fades .entry)) i nan ⊗ getD (now (gains .entry)) 0 nan ⊗ getD (now (sines .entry)) i nan)) (added y (blendCoeff (λ q. getD (now (rows .entry)) (q * 32 + i) nan) (now (gains .entry)) k) (blendCoeff (λ q. getD (now (rows .entry)) (q * 32 + i) nan) (now (gains .entry)) k ⊗ mainlobe ⊗ getD (now (fades .entry)) i nan ⊗ getD (now (sines .entry)) i nan))) (nearest 0 1) m ⌝ }
+{
+    if blend == 0 {
+        terms_single(terms, rows, mainlobe, fades, gains[0], sines, m);
+        return sum_of(0.0, terms, m);
+    }
+    blend_coeffs(coeffs, rows, gains, k, m);
+    terms_blend(terms, coeffs, mainlobe, fades, sines, m);
+    sum_of(0.0, terms, m)
 }

@@ -3,7 +3,7 @@ use borrow.Author.Needs.{needs}
 use mathlib.Core.Path.{_≡_, sym, ap, _∙_}
 use mathlib.Core.Bool.{Bool}
 use lib.ListN.{getD}
-use Rattle.player.specs.Wave.{quarterOf, signedQuarter}
+use Rattle.wave_table.specs.Wave.{quarterOf, signedQuarter}
 use Rattle.player.proofs.Quarters.{cast-fits, read, minus-fits, minus-read}
 use Rattle.player.proofs.wave.quarter.Statement.{statement}
 use Rattle.player.proofs.wave.quarter.Tie as tie

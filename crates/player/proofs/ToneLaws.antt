@@ -1,0 +1,168 @@
+-- The columns of a sample's partials put together to the definitions: what moves, and what is heard.
+use mathlib.Core.Path.{_≡_, refl, sym, ap, _∙_, subst}
+use mathlib.Core.List.{List, [], _∷_}
+use mathlib.Core.Bool.{Bool, true, false}
+use Prim.Native.Nat.{ℕ, zero, suc, _+_, _*_, _≤_, _<_}
+use native.Mathlib.Omega.{arith}
+use lib.ListN.{length, getD}
+use lib.Dec.{T, eqb}
+use lib.Ieee.{Float, nan, inf, fin, binary32, eq, fits, le}
+use Rattle.wire.specs.Parse.{pick}
+use Rattle.float.specs.Range.{Within}
+use Rattle.float.proofs.Identities.{same-float}
+use Rattle.player.specs.F32.{_⊕_, _⊗_, nearest}
+use Rattle.player.specs.Lists.{Filled, FilledRows, mapTo, steps, every}
+use Rattle.player.specs.Wave.{sineOf}
+use Rattle.player.specs.Phase.{AllPhases, AllSteps, Phase, Step, advanceOf, partialFreq, stepOf}
+use Rattle.player.specs.Fade.{nyquistFade}
+use Rattle.player.specs.Voice.{phaseOk, phasesOk}
+use Rattle.player.specs.Sound.{sidesAt, stepAt, fadeAt, partialRow, noiseRow, movedPhases, addSingle, addBlend, blendCoeff, partialTerm, partialSum}
+use Rattle.player.specs.Bracket.{bracketOf, sidesOf, between}
+use Rattle.player.specs.Tuning.{Tuned, added, rowsIn}
+use Rattle.player.specs.declared.bracket.Sides.{Sides}
+use Rattle.player.specs.declared.fixed.Fixed.{Fixed}
+use Rattle.player.specs.declared.pitch.Pitch.{Pitch}
+use Rattle.player.specs.declared.tuning.Tuning.{Tuning}
+use Rattle.player.specs.declared.voice.Voice.{Voice}
+use Rattle.player.proofs.Loops.{every-at, at-every, mapTo-at}
+use Rattle.player.proofs.ColumnLaws.{steps-as}
+use Rattle.player.proofs.RangeLaws.{advance-ok, phase-passes, step-small}
+use Rattle.player.proofs.SoundLaws.{FixedOf, phase-inside}
+
+-- maps that agree below n
+mapped-same : (f g : ℕ → Float → Float) (k n : ℕ) (l : List Float) → ((i : ℕ) (p : Float) → k ≤ i → i < k + n → f i p ≡ g i p) → mapTo f k n l ≡ mapTo g k n l
+unfolding mapTo
+mapped-same f g k zero l h = refl
+mapped-same f g k (suc n) [] h = refl
+mapped-same f g k (suc n) (x ∷ l) h =
+    ap (λ (z : Float). z ∷ mapTo f (suc k) n l) (h k x (omega arith) (omega arith)) ∙ ap (λ (z : List Float). g k x ∷ z) (mapped-same f g (suc k) n l (λ i p a b. h i p (omega arith) (omega arith)))
+
+-- the columns of a voice at the frequency f0
+pub record TunedVoice (v : Voice) (f0 : Float) (incs fades rows noiseRows : List Float) (t : Tuning) : Type 0 where
+  pub mainlobe : t .mainlobe ≡ between (v .«mainlobe_gain») (sidesAt v f0)
+  pub noise-gain : t .«noise_gain» ≡ between (v .«noise_gain») (sidesAt v f0)
+  pub safe : AllSteps incs (v .m)
+  pub small : t .small ≡ every (λ i. le (getD incs i nan) (nearest 31 32)) (v .m)
+  pub steps-are : Filled incs (λ i. stepAt v f0 i) (v .m)
+  pub fading : Filled fades (λ i. fadeAt v f0 i) (v .m)
+  pub rows-are : FilledRows rows (λ q i. partialRow (v .partials) (sidesAt v f0) q i) (pick (eqb (v .blend) 0) 1 (v .k)) (v .m)
+  pub noise-rows-are : FilledRows noiseRows (λ q l. noiseRow (v .noise) (sidesAt v f0) q (getD (v .live) l 0)) (pick (eqb (v .blend) 0) 1 (v .k)) (v .«live_count»)
+
+abbrev pub TunedTo : Voice → Fixed → Float → List Float → List Float → List Float → List Float → Tuning → Type 0
+TunedTo v x f0 incs fades rows noiseRows t =
+    Tuned x (v .count) (v .«live_count») (v .«f0_hz») (v .stretch) (v .«mainlobe_gain») (v .«noise_gain») (v .partials) (v .noise) (v .live) f0 incs fades rows noiseRows t
+
+module _ (v : Voice) (x : Fixed) (X : FixedOf v x) (incs fades rows noiseRows : List Float) (t : Tuning) where
+  pub tuned-voice : (f0 : Float) → TunedTo v x f0 incs fades rows noiseRows t → TunedVoice v f0 incs fades rows noiseRows t
+  unfolding sidesAt
+  tuned-voice f0 T = record {
+    mainlobe = T .mainlobe;
+    noise-gain = T .noise-gain;
+    safe = rw (← X .2) (T .safe);
+    small = T .small ∙ ap (λ (m : ℕ). every (λ i. le (getD incs i nan) (nearest 31 32)) m) (X .2);
+    steps-are = rw (← X .2, ← X .3) (T .steps);
+    fading = rw (← X .2, ← X .4) (T .fading);
+    rows-are = rw (← X .0, ← X .1, ← X .2) (T .rows-are);
+    noise-rows-are = rw (← X .0, ← X .1) (T .noise-rows-are);
+  }
+
+  -- columns that are tuned serve every frequency that compares equal: it is the same
+  pub stays : (f0 : Float) → T (fits binary32 f0) → Within 20000 1 f0 → TunedTo v x f0 incs fades rows noiseRows t
+      → (g : Float) → T (fits binary32 g) → Within 20000 1 g → eq g (t .f0) ≡ true → TunedTo v x g incs fades rows noiseRows t
+  stays f0 F W T g G U e =
+      subst (λ (z : Float). TunedTo v x z incs fades rows noiseRows t) (sym (same-float g f0 G F (U .plain-is) (W .plain-is) (ap (λ (z : Float). eq g z) (sym (T .at)) ∙ e))) T
+
+-- no frequency is equal to the NaN of columns that are not tuned yet
+pub untuned-none : (g : Float) → eq g nan ≡ true → ⊥
+unfolding eq
+untuned-none nan e = subst T (sym e) tt
+untuned-none (inf s) e = subst T (sym e) tt
+untuned-none (fin s m d) e = subst T (sym e) tt
+
+module _ (v : Voice) (f0 : Float) (incs fades rows noiseRows : List Float) (t : Tuning) (T : TunedVoice v f0 incs fades rows noiseRows t) (ps qs : List Float) (P : phasesOk ps (v .m) ≡ true)
+    (Q : qs ≡ mapTo (λ i p. advanceOf p (getD incs i nan)) 0 (v .m) ps) where
+  pub moved-phases : qs ≡ movedPhases v f0 ps
+  unfolding movedPhases
+  moved-phases = Q ∙ mapped-same _ _ 0 (v .m) ps (λ i p a b. ap (λ (z : Float). advanceOf p z) (T .steps-are .at i (omega arith)))
+
+  -- each phase after the step
+  at-phase : (i : ℕ) → i < v .m → getD qs i nan ≡ advanceOf (getD ps i nan) (stepAt v f0 i)
+  at-phase i l =
+      ap (λ (z : List Float). getD z i nan) Q ∙ mapTo-at (λ i p. advanceOf p (getD incs i nan)) nan (v .m) i ps l (phase-inside ps (v .m) i P l)
+      ∙ ap (λ (z : Float). advanceOf (getD ps i nan) z) (T .steps-are .at i l)
+
+  step-phase : (i : ℕ) → i < v .m → Phase (getD qs i nan)
+  unfolding phasesOk
+  step-phase i l =
+      subst (λ (z : Float). Phase z) (sym (ap (λ (z : List Float). getD z i nan) Q ∙ mapTo-at (λ i p. advanceOf p (getD incs i nan)) nan (v .m) i ps l (phase-inside ps (v .m) i P l)))
+      (advance-ok (getD ps i nan) (getD incs i nan) (every-at (λ i. phaseOk (getD ps i nan)) (v .m) i P l) (T .safe .at i l))
+
+  pub all-phases : AllPhases qs (v .m)
+  all-phases = record { at = step-phase }
+
+  pub phases-kept : phasesOk qs (v .m) ≡ true
+  unfolding phasesOk
+  phases-kept = at-every (λ i. phaseOk (getD qs i nan)) (v .m) (λ i l. phase-passes (getD qs i nan) (step-phase i l))
+
+  module _ (g sines : List Float) (S : Filled sines (λ i. sineOf (getD qs i nan)) (v .m)) where
+    sine-at : (i : ℕ) → i < v .m → getD sines i nan ≡ sineOf (advanceOf (getD ps i nan) (stepAt v f0 i))
+    sine-at i l = S .at i l ∙ ap (λ (z : Float). sineOf z) (at-phase i l)
+
+    abbrev C : ℕ → Float
+    C i = blendCoeff (λ q. getD rows (q * 32 + i) nan) g (v .k)
+
+    abbrev term : Bool → ℕ → Float → Float
+    term b i y =
+        pick b (added y (getD rows i nan) (getD rows i nan ⊗ t .mainlobe ⊗ getD fades i nan ⊗ getD g 0 nan ⊗ getD sines i nan))
+        (added y (C i) (C i ⊗ t .mainlobe ⊗ getD fades i nan ⊗ getD sines i nan))
+
+    -- the coefficient of a partial of a single voice
+    first-row : (i : ℕ) → eqb (v .blend) 0 ≡ true → i < v .m → getD rows i nan ≡ partialRow (v .partials) (sidesAt v f0) 0 i
+    first-row i b l =
+        let R : FilledRows rows (λ q i. partialRow (v .partials) (sidesAt v f0) q i) 1 (v .m) = subst (λ (z : Bool). FilledRows rows (λ q i. partialRow (v .partials) (sidesAt v f0) q i) (pick z 1 (v .k)) (v .m)) b (T .rows-are) in
+        ap (λ (z : ℕ). getD rows z nan) (sym (nothing i)) ∙ R .at 0 i (omega arith) l
+      where
+        nothing : (i : ℕ) → 0 * 32 + i ≡ i
+        nothing i = omega arith
+
+    -- and of a blend
+    blended : (i : ℕ) → eqb (v .blend) 0 ≡ false → i < v .m → C i ≡ blendCoeff (λ q. partialRow (v .partials) (sidesAt v f0) q i) g (v .k)
+    unfolding blendCoeff
+    blended i b l =
+        let R : FilledRows rows (λ q i. partialRow (v .partials) (sidesAt v f0) q i) (v .k) (v .m) = subst (λ (z : Bool). FilledRows rows (λ q i. partialRow (v .partials) (sidesAt v f0) q i) (pick z 1 (v .k)) (v .m)) b (T .rows-are) in
+        steps-as _ _ (nearest 0 1) (v .k) (λ q h y. ap (λ (z : Float). y ⊕ getD g q nan ⊗ z) (R .at q i h l))
+
+    each : (b : Bool) → eqb (v .blend) 0 ≡ b → (i : ℕ) → i < v .m → (y : Float) → term b i y ≡ partialTerm v f0 g i y (advanceOf (getD ps i nan) (stepAt v f0 i))
+    unfolding partialTerm addSingle addBlend
+    each true b i l y = rw (b, first-row i b l, T .mainlobe, T .fading .at i l, sine-at i l)
+    each false b i l y = rw (b, blended i b l, T .mainlobe, T .fading .at i l, sine-at i l)
+
+    -- LAW: what `tone_sum` ensures is the sum of the partials
+    pub tone-sound : (y : Float) → y ≡ steps (λ i y. term (eqb (v .blend) 0) i y) (nearest 0 1) (v .m) → y ≡ partialSum v f0 g ps
+    unfolding partialSum
+    tone-sound y e = e ∙ steps-as _ _ (nearest 0 1) (v .m) (λ i l y. each (eqb (v .blend) 0) refl i l y)
+
+-- ---- columns that are filled anew
+module _ (x : Fixed) (count n : ℕ) (pitches stretches mainlobes noiseGains partials noise : List Float) (live : List ℕ) (f0 : Float) (p : Pitch)
+    (P : (p .f0 ≡ f0) × (p .s ≡ sidesOf (bracketOf pitches count f0)) × (p .stretch ≡ between stretches (p .s)) × (p .mainlobe ≡ between mainlobes (p .s)) × (p .«noise_gain» ≡ between noiseGains (p .s)))
+    (freqs incs fades rows noiseRows : List Float) (k : ℕ) (b : Bool) where
+  -- the stretch between the sides of f0
+  stretch-is : p .stretch ≡ between stretches (sidesOf (bracketOf pitches count f0))
+  stretch-is = P .2 ∙ ap (λ (z : Sides). between stretches z) (P .1)
+
+  -- LAW: what `tune` fills is tuned to f0
+  pub tuned-is : Within 8 1 (p .stretch) → Within 20000 1 f0 → Within 1 4096 (x .inv) → x .m ≤ 32 → k ≡ rowsIn x → Filled freqs (λ i. partialFreq (i + 1) f0 (p .stretch)) (x .m)
+      → Filled incs (λ i. stepOf (i + 1) f0 (p .stretch) (x .inv)) (x .m) → Filled fades (λ i. nyquistFade (getD freqs i nan) (x .nyquist)) (x .m)
+      → FilledRows rows (λ q i. partialRow partials (p .s) q i) k (x .m) → FilledRows noiseRows (λ q l. noiseRow noise (p .s) q (getD live l 0)) k n → b ≡ every (λ i. le (getD incs i nan) (nearest 31 32)) (x .m)
+      → Tuned x count n pitches stretches mainlobes noiseGains partials noise live f0 incs fades rows noiseRows (record { f0 = f0; mainlobe = p .mainlobe; «noise_gain» = p .«noise_gain»; small = b })
+  tuned-is W F I M ek A B C R N S = record {
+    at = refl;
+    mainlobe = P .3 ∙ ap (λ (z : Sides). between mainlobes z) (P .1);
+    noise-gain = P .4 ∙ ap (λ (z : Sides). between noiseGains z) (P .1);
+    small = S;
+    safe = record { at = λ i l. subst (λ (z : Float). Step z) (sym (B .at i l)) (step-small (i + 1) f0 (p .stretch) (x .inv) (omega arith) F W I) };
+    steps = record { at = λ i l. B .at i l ∙ ap (λ (z : Float). stepOf (i + 1) f0 z (x .inv)) stretch-is };
+    fading = record { at = λ i l. C .at i l ∙ ap (λ (z : Float). nyquistFade z (x .nyquist)) (A .at i l ∙ ap (λ (z : Float). partialFreq (i + 1) f0 z) stretch-is) };
+    rows-are = record { at = λ q i h l. R .at q i (rw ek h) l ∙ ap (λ (z : Sides). partialRow partials z q i) (P .1) };
+    noise-rows-are = record { at = λ q l h a. N .at q l (rw ek h) a ∙ ap (λ (z : Sides). noiseRow noise z q (getD live l 0)) (P .1) };
+  }

@@ -1,0 +1,107 @@
+-- The line in a cell of the table of 1025 floats: the cell as a float, where the line starts, how far it rises, and the value on it.
+use mathlib.Core.Path.{_≡_, refl, sym, ap, _∙_, subst}
+use mathlib.Core.Logic.{_⊎_, inl, inr}
+use mathlib.Core.List.{List}
+use mathlib.Core.Bool.{Bool, true, false, _&&_}
+use Prim.Native.Nat.{ℕ, _+_, _≤_, _<_}
+use native.Mathlib.Nat.{le-trans, le-of-eq, le-of-lt, mul-comm, mul-one, div-le-of-le-mul, eq-or-lt-of-le}
+use native.Mathlib.Omega.{arith}
+use lib.Dec.{T, eqb, eqb→eq, lit≤, lit<}
+use lib.IntN.{ℤ, pos, negsuc, _-ℤ_}
+use lib.ListN.{length, getD, set}
+use lib.Seq.{getD-set-same, getD-set-other}
+use lib.Ieee.{Float, nan, inf, fin, binary32, round, ofInt, toUnsigned, inUnsigned, fits, sub}
+use lib.Ieee.Back.{unsigned-back}
+use lib.Ieee.Fits.{and-l, and-r}
+use lib.Ieee.Positive.{num, den}
+use Rattle.float.specs.Range.{Within}
+use Rattle.float.proofs.Within.{mul-within}
+use Rattle.float.proofs.Compare.{below-within}
+use Rattle.float.proofs.Fraction.{whole-is, widen}
+use Rattle.float.proofs.Ints.{abs-in-float}
+use Rattle.player.specs.Lists.{Filled}
+use Rattle.player.specs.Phase.{Phase, AllPhases}
+use Rattle.wave_table.specs.Wave.{quarterOf, waveOf, Waves}
+use Rattle.player.specs.Wave.{placeOf, cellOf, restOf, sineOf}
+use Rattle.player.specs.Sines.{cellFloat, indexOf, startOf, riseOf, lineAt, Cell, AllCells}
+use Rattle.wave_table.proofs.Alike.{rise-exact}
+use Rattle.player.proofs.SineLaws.{cell-lt}
+
+-- ---- the place of a phase, and its cell, whatever the phase's format
+pub place-small : (p : Float) → Phase p → Within 1024 1 (placeOf p)
+unfolding round
+place-small p h =
+    mul-within binary32 p (fin false 1 (pos 10)) 1 1 1024 1 1024 1 (lit< tt) (lit< tt) (lit< tt) (refl, refl) (below-within 1 1 p h) (record { plain-is = tt; upper = lit≤ tt }) (lit≤ tt)
+
+cell-le : (p : Float) → Phase p → cellOf p ≤ 1024
+cell-le p h =
+    let q = placeOf p in
+    le-trans (le-of-eq (whole-is 64 q (lit≤ tt) (widen 1024 16777216 q (lit≤ tt) (place-small p h))))
+    (div-le-of-le-mul (den q) (le-trans (le-of-eq (sym (mul-one (num q)))) (le-trans (place-small p h .upper) (le-of-eq (mul-comm 1024 (den q))))))
+
+-- ---- a whole number up to 1024 as a float, and back
+module _ (n : ℕ) (h : n ≤ 1024) where
+  abbrev there : T (inUnsigned binary32 32 (ofInt binary32 (pos n))) × (toUnsigned 32 (ofInt binary32 (pos n)) ≡ n)
+  there = unsigned-back binary32 32 n (abs-in-float (pos n) (omega arith)) (omega arith)
+
+  pub index-is : indexOf (ofInt binary32 (pos n)) ≡ n
+  index-is = there .1
+
+pub cell-is : (n : ℕ) → n < 1024 → Cell (ofInt binary32 (pos n))
+cell-is n h = record { below = subst (λ (k : ℕ). k < 1024) (sym (index-is n (le-of-lt h))) h; whole = there n (le-of-lt h) .0 }
+
+-- the cell of a phase
+pub phase-cell : (p : Float) → T (fits binary32 p) → Phase p → Cell (cellFloat p)
+phase-cell p t h = cell-is (cellOf p) (cell-lt p t h)
+
+-- ---- a column of cells, one turn of a loop at a time
+pub cells-none : (xs : List Float) → AllCells xs 0
+cells-none xs = record { at = λ i h. absurd (none i h) }
+  where
+    none : (i : ℕ) → i < 0 → ⊥
+    none i h = omega arith
+
+pub cells-more : (xs : List Float) (n : ℕ) (y : Float) → n < length xs → AllCells xs n → Cell y → AllCells (set xs n y) (n + 1)
+cells-more xs n y l h c = record { at = λ i k. go i (eq-or-lt-of-le (last i n k)) }
+  where
+    last : (i n : ℕ) → i < n + 1 → i ≤ n
+    last i n k = omega arith
+
+    less : (i n : ℕ) → i < n → i ≡ n → ⊥
+    less i n k q = omega arith
+
+    go : (i : ℕ) → (i ≡ n) ⊎ (i < n) → Cell (getD (set xs n y) i nan)
+    go i (inl q) = subst Cell (sym (ap (λ (j : ℕ). getD (set xs n y) j nan) q ∙ getD-set-same xs n y nan l)) c
+    go i (inr k) = subst Cell (sym (getD-set-other xs n i y nan (less i n k))) (h .at i k)
+
+pub cells-full : (xs : List Float) (i n : ℕ) → i ≡ n → AllCells xs i → AllCells xs n
+cells-full xs i n e h = subst (λ (k : ℕ). AllCells xs k) e h
+
+-- ---- the line from the table's entry k
+module _ (w : List Float) (t : Waves w) (k : ℕ) (h : k < 1024) where
+  pub start-is : getD w k nan ≡ startOf k
+  start-is = t .entry k (omega arith)
+
+  pub rise-is : sub binary32 (getD w (k + 1) nan) (getD w k nan) ≡ riseOf k
+  rise-is =
+      ap (λ (z : Float). sub binary32 z (getD w k nan)) (t .entry (k + 1) (omega arith))
+      ∙ ap (λ (z : Float). sub binary32 (startOf (k + 1)) z) start-is
+      ∙ rise-exact k h
+
+-- S of a phase, by its cell as a float
+pub sine-is : (p : Float) → Phase p → lineAt (startOf (indexOf (cellFloat p))) (restOf p) (riseOf (indexOf (cellFloat p))) ≡ sineOf p
+unfolding sineOf
+sine-is p h = ap (λ (k : ℕ). lineAt (startOf k) (restOf p) (riseOf k)) (index-is (cellOf p) (cell-le p h))
+
+-- a column of them
+pub sines-filled : (ps cells rests starts rises sines : List Float) (m : ℕ) → AllPhases ps m → Filled cells (λ i. cellFloat (getD ps i nan)) m → Filled rests (λ i. restOf (getD ps i nan)) m
+    → Filled starts (λ i. startOf (indexOf (getD cells i nan))) m → Filled rises (λ i. riseOf (indexOf (getD cells i nan))) m
+    → Filled sines (λ i. lineAt (getD starts i nan) (getD rests i nan) (getD rises i nan)) m → Filled sines (λ i. sineOf (getD ps i nan)) m
+sines-filled ps cells rests starts rises sines m P C R S D L = record {
+  at = λ i h. L .at i h
+      ∙ ap (λ (z : Float). lineAt z (getD rests i nan) (getD rises i nan)) (S .at i h)
+      ∙ ap (λ (z : Float). lineAt (startOf (indexOf (getD cells i nan))) (getD rests i nan) z) (D .at i h)
+      ∙ ap (λ (z : Float). lineAt (startOf (indexOf z)) (getD rests i nan) (riseOf (indexOf z))) (C .at i h)
+      ∙ ap (λ (z : Float). lineAt (startOf (indexOf (cellFloat (getD ps i nan)))) z (riseOf (indexOf (cellFloat (getD ps i nan))))) (R .at i h)
+      ∙ sine-is (getD ps i nan) (P .at i h);
+}

@@ -1,0 +1,29 @@
+use Rattle.wire.specs.Parse.{pick}
+use borrow.Author.Tests.{eq-eqb, ne-eqb}
+use mathlib.Core.Bool.{Bool}
+-- `rows_in` meets its contract.
+use mathlib.Core.Path.{_≡_, refl, sym, ap, _∙_}
+use Prim.Native.Nat.{ℕ, _+_, _-_, _*_, _≤_, _<_}
+use native.Mathlib.Omega.{arith}
+use lib.ListN.{length, getD, length-set}
+use lib.Ieee.{Float, nan, binary32, ofBits}
+use Rattle.player.specs.F32.{_⊕_, _⊗_, nearest}
+use Rattle.player.specs.Lists.{Filled, FilledRows, steps, mapTo, every}
+use Rattle.player.proofs.Loops.{steps-again, steps-full, mapTo-again, mapTo-read, mapTo-full}
+use Rattle.player.proofs.ColumnLaws.{filled-none, filled-again, filled-full}
+use borrow.Author.Needs.{needs}
+use Rattle.player.proofs.tuning.rows_in.Statement.{statement}
+use Rattle.player.proofs.tuning.rows_in.Tie as tie
+
+returns : tie.Need-returns
+returns c =
+    let b1 = c .before in
+    (sym (ap (λ (b : Bool). pick b 1 (b1 .args .k)) (eq-eqb _ 0 (c .if1 .taken))), omega arith)
+
+returns-2 : tie.Need-returns-2
+returns-2 c =
+    let b1 = c .before in
+    (sym (ap (λ (b : Bool). pick b 1 (b1 .args .k)) (ne-eqb _ 0 (c .if1 .left))), b1 .pre)
+
+pub rows-in-spec : {M : Type 1} → statement M
+rows-in-spec = tie.close (tie.spec returns returns-2)

@@ -1,0 +1,46 @@
+-- Columns of live bands: place l of a column belongs to live band l, that is to band `live[l]`.
+use Prim.Native.Nat.{ℕ, _<_}
+use mathlib.Core.Path.{_≡_}
+use mathlib.Core.List.{List}
+use mathlib.Core.Bool.{true}
+use lib.IntN.{pos}
+use lib.ListN.{getD}
+use lib.Ieee.{Float, nan, fin, ne}
+use Rattle.wire.specs.Parse.{pick}
+use Rattle.player.specs.F32.{_⊗_, nearest}
+use Rattle.player.specs.Filters.{tickOf}
+use Rattle.player.specs.Sound.{noState, noCoeffs}
+use Rattle.player.specs.declared.filters.BiquadCoeffs.{BiquadCoeffs}
+use Rattle.player.specs.declared.filters.BiquadState.{BiquadState}
+
+-- each of the first n is one of 16 bands
+pub record LiveIn (live : List ℕ) (n : ℕ) : Type 0 where
+  pub below : (l : ℕ) → l < n → getD live l 0 < 16
+
+-- place l of two, and of five columns
+abbrev pub stateOfColumns : List Float → List Float → ℕ → BiquadState
+stateOfColumns z1 z2 l = record { z1 = getD z1 l nan; z2 = getD z2 l nan }
+
+abbrev pub coeffsOfColumns : List Float → List Float → List Float → List Float → List Float → ℕ → BiquadCoeffs
+coeffsOfColumns b0 b1 b2 a1 a2 l = record { b0 = getD b0 l nan; b1 = getD b1 l nan; b2 = getD b2 l nan; a1 = getD a1 l nan; a2 = getD a2 l nan }
+
+-- the columns hold the live bands' memories, and their coefficients
+pub record Memories (z1 z2 : List Float) (ms : List BiquadState) (live : List ℕ) (n : ℕ) : Type 0 where
+  pub at : (l : ℕ) → l < n → getD ms (getD live l 0) noState ≡ stateOfColumns z1 z2 l
+
+pub record Coeffs (b0 b1 b2 a1 a2 : List Float) (bs : List BiquadCoeffs) (live : List ℕ) (n : ℕ) : Type 0 where
+  pub at : (l : ℕ) → l < n → getD bs (getD live l 0) noCoeffs ≡ coeffsOfColumns b0 b1 b2 a1 a2 l
+
+-- one sample x of n filters: the columns ys, w1, w2 hold what `tick` answers for the memories z1, z2
+pub record Ticked (ys w1 w2 z1 z2 b0 b1 b2 a1 a2 : List Float) (x : Float) (n : ℕ) : Type 0 where
+  pub at : (l : ℕ) → l < n → record { state = stateOfColumns w1 w2 l; y = getD ys l nan } ≡ tickOf (stateOfColumns z1 z2 l) x (coeffsOfColumns b0 b1 b2 a1 a2 l)
+
+-- ---- what a live band adds to the sample. Where its coefficient is 0 that is -0, which changes no float that it is added to.
+abbrev pub minusZero : Float
+minusZero = fin true 0 (pos 0)
+
+unfoldable pub singleTerm : Float → Float → Float → Float → Float → Float
+singleTerm coeff gain noiseGain makeup filtered = pick (ne coeff (nearest 0 1)) (coeff ⊗ noiseGain ⊗ gain ⊗ makeup ⊗ filtered) minusZero
+
+unfoldable pub blendTerm : Float → Float → Float → Float → Float → Float
+blendTerm power root noiseGain makeup filtered = pick (ne power (nearest 0 1)) (root ⊗ noiseGain ⊗ makeup ⊗ filtered) minusZero
