@@ -1,11 +1,11 @@
 -- Laws of an entry's coefficients, by the tests of the code. Assumes nothing.
-use Prim.Native.Nat.{ℕ, zero, suc, _+_, _-_, _*_, _/_, _%_, _≤_, _<_, max}
+use Prim.Native.Nat.{ℕ, zero, suc, _+_, _-_, _*_, _≤_, _<_, max}
 use mathlib.Core.Path.{_≡_, refl, ap, sym, _∙_}
 use mathlib.Core.List.{List, [], _∷_}
 use mathlib.Core.Bool.{Bool, true, false, _&&_, _||_}
 use native.Mathlib.Omega.{arith}
 use native.Mathlib.Numerals.{add-one}
-use native.Mathlib.Nat.{mod-lt, div-lt-iff-lt-mul, div-add-mod', mul-zero, mul-comm}
+use native.Mathlib.Nat.{lt-of-mul-lt-mul-right, mul-suc, mul-zero}
 use lib.ListN.{length, getD}
 use lib.Dec.{leb, ltb, eqb}
 use lib.Ieee.{Float}
@@ -64,14 +64,22 @@ not-empty k (suc w) x n e h = omega arith
 pub row-wide : (s : List ℕ) (v : EntryView) (x : ℕ) → formed (entryAt s v) ≡ true → x < v .coefficients → 0 < v .«m_partials» + v .«j_noise»
 row-wide s v x f h = not-empty (v .«k_channels») (v .«m_partials» + v .«j_noise») x (v .coefficients) (formed-is s v f) h
 
-pub coefficient-flat : (s : List ℕ) (v : EntryView) (x : ℕ) → formed (entryAt s v) ≡ true → x < v .coefficients
-    → coefficientAt (entryAt s v) (x / (v .«m_partials» + v .«j_noise»)) (x % (v .«m_partials» + v .«j_noise»)) ≡ getD (entryAt s v .coefficients) x 0
-coefficient-flat s v x f h =
+-- column c of row r stands at x: so there is such a row, and its number is no larger than x
+pub row-there : (s : List ℕ) (v : EntryView) (r c x : ℕ) → formed (entryAt s v) ≡ true → x < v .coefficients → r * (v .«m_partials» + v .«j_noise») + c ≡ x → r < v .«k_channels»
+row-there s v r c x f h e =
     let w = v .«m_partials» + v .«j_noise» in
-    let p : 0 < w = row-wide s v x f h in
-    let e = formed-is s v f in
-    let a : x / w < v .«k_channels» = div-lt-iff-lt-mul p .1 (rw e h) in
-    coefficient-is s v (x / w) (x % w) a (mod-lt x p) ∙ ap (λ (i : ℕ). getD (entryAt s v .coefficients) i 0) (div-add-mod' x w)
+    let l : r * w < v .«k_channels» * w = omega (arith, formed-is s v f) in
+    lt-of-mul-lt-mul-right w l
+
+pub row-small : (r w c x : ℕ) → c < w → r * w + c ≡ x → r ≤ x
+row-small r zero c x l e = absurd (omega arith)
+row-small r (suc w) c x l e = omega (arith, mul-suc r w)
+
+-- the coefficient at column c of row r stands at x
+pub coefficient-flat : (s : List ℕ) (v : EntryView) (r c x : ℕ) → formed (entryAt s v) ≡ true → x < v .coefficients → r * (v .«m_partials» + v .«j_noise») + c ≡ x → c < v .«m_partials» + v .«j_noise»
+    → coefficientAt (entryAt s v) r c ≡ getD (entryAt s v .coefficients) x 0
+coefficient-flat s v r c x f h e l =
+    coefficient-is s v r c (row-there s v r c x f h e) l ∙ ap (λ (i : ℕ). getD (entryAt s v .coefficients) i 0) e
 
 -- the highest partial that is not 0, from the top down
 pub reach-hit : (e : PitchEntry) (c i : ℕ) → 0 < i → isNonzero (partialCoeff e c (i - 1)) ≡ true → reach e c i ≡ i

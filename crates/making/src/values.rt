@@ -1,6 +1,6 @@
 // Question 9: the values of each entry.
 ghost use mathlib.Core.Path.{_≡_};
-ghost use Prim.Native.Nat.{_≤_};
+ghost use Prim.Native.Nat.{_+_, _*_, _≤_, _<_};
 ghost use mathlib.Core.Bool.{true};
 ghost use lib.Ieee.Scale.{finite};
 ghost use Rattle.wire.specs.Parse.{Refusal};
@@ -47,6 +47,27 @@ fn found_ok(f: Found) -> bool
     }
 }
 
+// A coefficient's channel and its column in the channel's row.
+struct Place {
+    row: u32,
+    column: u32,
+}
+
+// The place of the next coefficient: a division for each would cost more than the test.
+fn next_place(p: Place, width: u32) -> Place
+    requires { ⌜ p .column < width ⌝ ∗ ⌜ p .row < 4294967295 ⌝ }
+    ensures { λ r. ⌜ (r .row * width + r .column ≡ p .row * width + p .column + 1) × (r .column < width) ⌝ }
+{
+    let column = p.column + 1;
+    if column < width {
+        return Place { row: p.row, column };
+    }
+    Place {
+        row: p.row + 1,
+        column: 0,
+    }
+}
+
 // Every coefficient is finite: row after row.
 fn coefficients_ok(s: &[u8], v: EntryView) -> bool
     requires { ⌜ sizesOk (entryAt (now s) v) ≡ true ⌝ ∗ ⌜ formed (entryAt (now s) v) ≡ true ⌝ }
@@ -54,11 +75,13 @@ fn coefficients_ok(s: &[u8], v: EntryView) -> bool
 {
     let width = v.m_partials + v.j_noise;
     let n = v.coefficients;
+    let mut p = Place { row: 0, column: 0 };
     let mut x: u32 = 0;
     while x < n {
-        if !float::is_finite(float::from_bits(coefficient(s, v, x / width, x % width))) {
+        if !float::is_finite(float::from_bits(coefficient(s, v, p.row, p.column))) {
             return false;
         }
+        p = next_place(p, width);
         x += 1;
     }
     true
