@@ -1,0 +1,67 @@
+-- `replay::playing::same_filling` is safe and ends. Assumes nothing.
+use borrow.Author.Needs.{needs}
+use Prim.Native.Nat.{_≤_, _-_}
+use lib.ListN.{length}
+use Rattle.replay.proofs.playing.same_filling.Statement.{statement}
+use Rattle.replay.proofs.playing.same_filling.Tie as tie
+use Rattle.replay.proofs.playing.same_filling.Reads as reads
+use Rattle.replay.proofs.playing.same_filling.Lts as lts
+use Rattle.replay.proofs.tally.same_float.Reads as same-float-reads
+
+abbrev Inv-loop : tie.InvT-loop
+Inv-loop ours t₀ i₀ t5 t i = i ≤ length ours
+
+abbrev μ-loop : tie.MeasureT-loop
+μ-loop ours t₀ i₀ t5 t i = length ours - i
+
+-- src/playing.rt:74:5
+loop-holds : tie.Need-loop-holds Inv-loop μ-loop
+loop-holds c = search needs
+
+-- src/playing.rt:75:27
+slice-aggregate-same-float : tie.Need-slice-aggregate-same-float Inv-loop μ-loop
+slice-aggregate-same-float c = search needs
+
+-- src/playing.rt:75:61
+mul-same-float : tie.Need-mul-same-float Inv-loop μ-loop
+mul-same-float c = search needs
+
+-- src/playing.rt:75:61
+shared-slice-read-same-float : tie.Need-shared-slice-read-same-float Inv-loop μ-loop
+shared-slice-read-same-float c = search needs
+
+-- src/playing.rt:75:9
+same-float-requires : tie.Need-same-float-requires Inv-loop μ-loop
+same-float-requires c κs = search needs
+
+-- src/playing.rt:76:9
+add-i : tie.Need-add-i Inv-loop μ-loop
+add-i c = search needs
+
+-- src/playing.rt:74:5
+loop-less : tie.Need-loop-less Inv-loop μ-loop
+loop-less c = search needs
+
+-- src/playing.rt:74:5
+loop-again : tie.Need-loop-again Inv-loop μ-loop
+loop-again c = search needs
+
+-- src/playing.rt:71:1
+returns : tie.Need-returns Inv-loop μ-loop
+returns c = search needs
+
+pub same-filling-spec : {M : Type 1} → statement M
+same-filling-spec =
+    tie.close
+    (tie.spec
+    Inv-loop
+    μ-loop
+    loop-holds
+    slice-aggregate-same-float
+    mul-same-float
+    shared-slice-read-same-float
+    same-float-requires
+    add-i
+    loop-less
+    loop-again
+    returns)
