@@ -21,6 +21,7 @@ struct NoisePower {
 extern "C" {
     fn probe_ring(freq: f32, q: f32, sample_rate: f32, c: Coeffs) -> NoisePower;
     fn probe_sqrt(x: f32) -> f32;
+    fn probe_sqrt_each(roots: *mut f32, roots_len: usize, xs: *const f32, xs_len: usize, n: usize);
     fn probe_sine(t: *const u32, p: f32) -> f32;
     fn probe_advance(p: f32, inc: f32) -> f32;
 }
@@ -34,6 +35,13 @@ fn rust_advance(p: f32, inc: f32) -> f32 {
 #[inline(never)]
 fn rust_sqrt(x: f32) -> f32 {
     x.sqrt()
+}
+
+#[inline(never)]
+fn rust_sqrt_each(roots: &mut [f32], xs: &[f32]) {
+    for (r, x) in roots.iter_mut().zip(xs) {
+        *r = x.sqrt();
+    }
 }
 
 fn w(t: &[u32; 257], k: usize) -> i32 {
@@ -115,6 +123,22 @@ fn main() {
     let a = best(n, || unsafe { (0..n).map(|i| probe_sqrt(phases[(i & 4095) as usize] + 0.001).to_bits() as u64).fold(0, u64::wrapping_add) });
     let b = best(n, || (0..n).map(|i| rust_sqrt(phases[(i & 4095) as usize] + 0.001).to_bits() as u64).fold(0, u64::wrapping_add));
     line("square root (sqrtss)", a, b);
+    let xs: Vec<f32> = phases.iter().map(|p| 1e-8f32.powf(*p)).collect();
+    let column = |i: u64| &xs[(i & 255) as usize * 16..][..16];
+    let mut roots = [0.0f32; 16];
+    let a = best(n, || unsafe {
+        for i in 0..n / 16 {
+            probe_sqrt_each(roots.as_mut_ptr(), 16, column(i).as_ptr(), 16, 16);
+        }
+        roots[3].to_bits() as u64
+    });
+    let b = best(n, || {
+        for i in 0..n / 16 {
+            rust_sqrt_each(&mut roots, column(i));
+        }
+        roots[3].to_bits() as u64
+    });
+    line("each of 16 roots (sqrtps)", a, b);
     let c = Coeffs { b0: 0.01, b1: 0.0, b2: -0.01, a1: -1.98, a2: 0.98 };
     let steps = unsafe { probe_ring(200.0, 1.0, 48000.0, c).n } as u64 * 2000;
     let a = best(steps, || unsafe { (0..2000).map(|_| probe_ring(black_box(200.0), 1.0, 48000.0, c).power.to_bits() as u64).sum() });

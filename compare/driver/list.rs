@@ -1,45 +1,37 @@
-// The fixed list of the original's answers, for a program that needs no Rust.
-// Little-endian, in the wire's own forms: a u32 count of records, and for each record
-//   the image (u32 length, bytes); a channel; the read's number, first, second; the name's start and length;
-//   the desk's bands, min_hz, max_hz for a single voice of the channel, then for a blend;
-//   the target before rewriting (u32 length, bytes); the rewriting's number, first, second; the target afterwards (u32 length, bytes).
-// Every number is a u32.
+// The fixed list of the original's answers on reading and rewriting, for a program that needs no Rust (words.rs has the words).
+// A record: the image (length, bytes); a channel; the read's number, first, second; the name's start and length;
+// the desk's bands, min_hz, max_hz for a single voice of the channel, then for a blend;
+// the target before rewriting (length, bytes); the rewriting's number, first, second; the target afterwards (length, bytes).
+use crate::image::Table;
 use crate::rand::Rand;
 use crate::reading::{Case, any_case, expected_desk, expected_read, fixed_cases};
 use crate::tally::Tally;
+use crate::words::{self, Words};
 use std::sync::Arc;
 
-fn word(out: &mut Vec<u8>, v: usize) {
-    out.extend_from_slice(&u32::try_from(v).unwrap().to_le_bytes());
-}
-
-fn bytes(out: &mut Vec<u8>, l: &[u8]) {
-    word(out, l.len());
-    out.extend_from_slice(l);
-}
-
-fn three(out: &mut Vec<u8>, a: (u32, usize, usize)) {
-    word(out, a.0 as usize);
-    word(out, a.1);
-    word(out, a.2);
-}
-
-fn record(out: &mut Vec<u8>, c: &Case) -> u32 {
+// The record, and the numbers of the read and of the rewriting.
+fn record(c: &Case) -> (Words, [u32; 2]) {
     let mut tally = Tally::default();
-    bytes(out, &c.image);
-    word(out, c.channel as usize);
+    let mut w = Words::default();
+    w.part(&c.image);
+    w.n(c.channel as usize);
     let read = expected_read(&c.image, &mut tally).map(Arc::new);
     let canon = read.as_ref().map(|t| t.to_bytes()).unwrap_or_default();
     let wanted = read.as_ref().map_or_else(|e| *e, |t| (0, t.entries.len(), canon.len()));
-    three(out, wanted);
-    word(out, if read.is_ok() { 10 } else { 0 });
-    word(out, read.as_ref().map_or(0, |t| t.name.len()));
-    for kind in [0, 1] {
+    w.answer(["the read's number", "the read's first value", "the read's second value"], wanted);
+    w.expect("the name's start");
+    w.n(if read.is_ok() { 10 } else { 0 });
+    w.expect("the name's length");
+    w.n(read.as_ref().map_or(0, |t| t.name.len()));
+    for (kind, what) in [
+        (0, ["a single voice's bands", "a single voice's min_hz", "a single voice's max_hz"]),
+        (1, ["a blend's bands", "a blend's min_hz", "a blend's max_hz"]),
+    ] {
         let d = read.as_ref().map_or((0, 0, 0), |t| expected_desk(t, kind, c.channel, &mut tally));
-        three(out, (d.0, d.1 as usize, d.2 as usize));
+        w.answer(what, (d.0, d.1 as usize, d.2 as usize));
     }
     let mut target = vec![0xA5; (canon.len() as i64 + c.slack).max(0) as usize];
-    bytes(out, &target);
+    w.part(&target);
     let rewriting = match &read {
         Ok(_) if canon.len() <= target.len() => wanted,
         Ok(_) => (17, 0, 0),
@@ -48,9 +40,21 @@ fn record(out: &mut Vec<u8>, c: &Case) -> u32 {
     if rewriting.0 == 0 {
         target[..canon.len()].copy_from_slice(&canon);
     }
-    three(out, rewriting);
-    bytes(out, &target);
-    wanted.0
+    w.answer(["the rewriting's number", "the rewriting's first value", "the rewriting's second value"], rewriting);
+    if !target.is_empty() {
+        w.n(target.len());
+        w.expect("a byte of the target");
+        w.bytes.extend_from_slice(&target);
+    } else {
+        w.n(0);
+    }
+    (w, [wanted.0, rewriting.0])
+}
+
+// An image of 65,536 bytes or one more, whose last entry ends early.
+pub fn long_image(more: usize) -> Vec<u8> {
+    let t = Table { version: 1, name: b"long".to_vec(), ..Table::default() };
+    Table { tail: vec![0; 65536 + more - t.bytes().len()], ..t }.bytes()
 }
 
 pub fn write(n: usize, seed: u64, path: &str) {
@@ -61,21 +65,19 @@ pub fn write(n: usize, seed: u64, path: &str) {
         }
     });
     let mut r = Rand(seed);
-    let mut out = Vec::new();
-    word(&mut out, n);
-    // no answer takes more than a fifth of the list; question 1 needs an image of more than 65,536 bytes and is left to the driver
+    let mut records: Vec<Words> = (0..2).map(|more| record(&Case { image: long_image(more), channel: 0, slack: 0 }).0).collect();
     let mut numbers = [0; 18];
-    let mut done = 0;
-    while done < n {
+    (numbers[0], numbers[1]) = (1, 1);
+    // no answer takes more than a fifth of the list
+    while records.len() < n {
         let c = if r.chance(50) { fixed[r.below(fixed.len())].clone() } else { any_case(&mut r) };
-        let mut one = Vec::new();
-        let number = record(&mut one, &c) as usize;
+        let (one, [read, rewriting]) = record(&c);
+        let number = if rewriting == 17 { 17 } else { read as usize };
         if numbers[number] * 5 <= n {
             numbers[number] += 1;
-            done += 1;
-            out.extend(one);
+            records.push(one);
         }
     }
-    std::fs::write(path, &out).unwrap();
-    println!("list: {n} records of reading, {} bytes, answers by number {numbers:?}, to {path}", out.len());
+    words::write("reading", &records, path);
+    println!("list: answers by number {numbers:?}");
 }

@@ -9,6 +9,7 @@ mod race;
 mod rand;
 mod reading;
 mod tally;
+mod words;
 
 use tally::Tally;
 
@@ -20,14 +21,15 @@ fn main() {
     let value = |name: &str| a.iter().position(|x| x == name).and_then(|i| a.get(i + 1)).cloned();
     let number = |name: &str, other: u64| value(name).map_or(other, |v| v.parse().unwrap_or_else(|_| panic!("{name} {v}: not a number")));
     let (cases, seed) = (number("--cases", 300_000), number("--seed", 1));
-    if a.iter().any(|x| x == "--race") {
-        race::run();
+    if a.iter().any(|x| x == "--race" || x == "--race-only") {
+        race::run(&race::Race { only: value("--race-only").unwrap_or_default() });
         return;
     }
     if let Some(path) = value("--out") {
-        list::write(number("--list", 300) as usize, seed, &path);
+        let records = number("--list", 450) as usize;
+        list::write(records, seed, &format!("{path}/reading"));
         #[cfg(playing)]
-        playing::write_list(number("--list", 300) as usize, seed, &format!("{path}.playing"));
+        playing::write_list(records, seed, &format!("{path}/playing"));
         return;
     }
     let mut reading = Tally::default();
@@ -41,6 +43,19 @@ fn main() {
     if !a.iter().any(|x| x == "--only-reading") {
         playing::run(number("--voices", 3000) as usize, seed, &mut playing);
         playing.print("playing");
+        for (what, asked) in [("lists", number("--lists", 0)), ("long", number("--long", 0))] {
+            if asked == 0 {
+                continue;
+            }
+            let mut tally = Tally::default();
+            if what == "lists" {
+                playing::run_lists(asked as usize, number("--calls", 100).max(1) as usize, seed, &mut tally);
+            } else {
+                playing::long(asked, seed, &mut tally);
+            }
+            tally.print(what);
+            playing.add(&tally);
+        }
     }
     let differences = reading.differences + playing.differences;
     println!("compare: seed {seed}, {} cases, {} samples, {differences} differences", reading.cases + playing.cases, playing.samples);

@@ -15,6 +15,14 @@ impl Tally {
     pub fn number(&mut self, n: u32) {
         self.numbers[n as usize] += 1;
     }
+    pub fn add(&mut self, other: &Tally) {
+        self.cases += other.cases;
+        self.samples += other.samples;
+        self.calls += other.calls;
+        self.differences += other.differences;
+        self.paper += other.paper;
+        self.numbers.iter_mut().zip(other.numbers).for_each(|(a, b)| *a += b);
+    }
     // Counts one difference and tells the first three: what differed, the smallest case with a difference that was found, and what differs there.
     pub fn difference(&mut self, what: &str, smallest: impl FnOnce() -> (String, String)) {
         self.differences += 1;

@@ -132,7 +132,13 @@ pub fn any_call(r: &mut Rand, v: (usize, usize)) -> Call {
     }
 }
 
+// A case with a list of fewer than twelve calls.
 pub fn any_case(r: &mut Rand) -> Case {
+    case_of(r, |r| r.below(12))
+}
+
+// A case whose list has as many calls as are asked for.
+pub fn case_of(r: &mut Rand, calls: impl FnOnce(&mut Rand) -> usize) -> Case {
     let table = any_table(r);
     let kind = r.pick(&[0, 1, 1, 7]);
     let channel = r.pick(&[0, 0, 0, 1, 2, 4, u32::MAX]);
@@ -159,6 +165,6 @@ pub fn any_case(r: &mut Rand) -> Case {
     } else if r.chance(1) {
         centres.pop();
     }
-    let calls = (0..r.below(12)).map(|_| any_call(r, (m, j))).collect();
+    let calls = (0..calls(r)).map(|_| any_call(r, (m, j))).collect();
     Case { kind, channel, table, rate, centres, calls }
 }

@@ -1,75 +1,162 @@
-// The fixed list of the original's answers on making and playing.
+// The fixed list of the original's answers on making and playing (words.rs has the words).
+// A record: kind, channel, image (length, bytes), rate, centres (count, bits); the making's number, first, second; the fresh voice as changes
+// of the voice that is all zero. Of an accepted making then: ring count and noise power of each band; the count of calls, and each call:
+//   changes of the voice before it (which the list goes on without where the call is refused);
+//   0 and a play (samples; frequency and four gains, each with channels, count and bits; channels; length of the output), or 1 for a reset, or 2 and a seed;
+//   the number; of an accepted call the running state as changes, and of an accepted play then the output.
+// Changes: a count, and for each a place (field × 65536 + index, the fields in the order of a voice) and what stands there.
 use super::*;
+use crate::image;
+use crate::list::long_image;
+use crate::words::{self, Words};
 
-// A record, every number a u32, floats as their bits (a NaN as 7FC00000): kind, channel, image (length, bytes), rate, centres (count, bits);
-// the making's number, first, second. Of an accepted making then: k, m, j; ring count, five coefficients and compensation of each band;
-// the count of calls, and each call: 0 and a play (samples; frequency and four gains, each with channels, count and bits; channels; length of the
-// output; the number; where that is 0, the output), or 1 for a reset, or 2 and a seed; after each the running state (m phases, j pairs of
-// memories, noise number).
-struct Words<'a>(&'a mut Vec<u8>);
+// Every place of a voice, with the field's name.
+fn places(v: &Voice) -> Vec<(&'static str, usize, u32)> {
+    let mut l = Vec::new();
+    let mut field = 0;
+    let mut put = |name: &'static str, words: &[u32]| {
+        words.iter().enumerate().for_each(|(i, &w)| l.push((name, field * 65536 + i, w)));
+        field += 1;
+    };
+    let whole = |n: usize| n.min(u32::MAX as usize) as u32;
+    let bits = |l: &[f32]| l.iter().map(|x| if x.is_nan() { 0x7FC00000 } else { x.to_bits() }).collect::<Vec<u32>>();
+    put("blend", &[v.blend]);
+    put("channel", &[v.channel]);
+    put("count", &[whole(v.count)]);
+    put("k", &[whole(v.k)]);
+    put("m", &[whole(v.m)]);
+    put("j", &[whole(v.j)]);
+    put("live_count", &[whole(v.live_count)]);
+    put("live", &v.live.map(whole));
+    put("sample_rate", &bits(&[v.sample_rate]));
+    put("f0_hz", &bits(&v.f0_hz));
+    put("stretch", &bits(&v.stretch));
+    put("mainlobe_gain", &bits(&v.mainlobe_gain));
+    put("noise_gain", &bits(&v.noise_gain));
+    put("partials", &bits(&v.partials));
+    put("noise", &bits(&v.noise));
+    for (i, name) in ["b0", "b1", "b2", "a1", "a2"].into_iter().enumerate() {
+        put(name, &bits(&v.bands.map(|b| b[i])));
+    }
+    put("compensation", &bits(&v.compensation));
+    put("phases", &bits(&v.state.phases));
+    for (i, name) in ["z1", "z2"].into_iter().enumerate() {
+        put(name, &bits(&v.state.memories.map(|z| z[i])));
+    }
+    put("noise number", &[v.state.noise]);
+    l
+}
 
-impl Words<'_> {
-    fn n(&mut self, v: usize) {
-        self.0.extend_from_slice(&(v as u32).to_le_bytes());
-    }
-    fn f(&mut self, l: &[f32]) {
-        l.iter().for_each(|x| self.n(if x.is_nan() { 0x7FC00000 } else { x.to_bits() as usize }));
-    }
-    fn list(&mut self, l: &[f32]) {
-        self.n(l.len());
-        self.f(l);
-    }
-    fn state(&mut self, r: &Running) {
-        self.f(&r.phases);
-        r.memories.iter().for_each(|z| self.f(&[z.0, z.1]));
-        self.n(r.noise as usize);
+// The changes from one voice to another; all of a running state where `state` is there (m phases, j pairs of memories, noise number).
+fn changes(w: &mut Words, from: &Voice, to: &Voice, state: bool, expected: bool) {
+    let used = |place: usize| match place >> 16 {
+        21 => (place & 0xFFFF) < to.m,
+        22 | 23 => (place & 0xFFFF) < to.j,
+        field => field == 24,
+    };
+    let l: Vec<_> = places(from).into_iter().zip(places(to)).filter(|(a, b)| a.2 != b.2 || state && used(b.1)).map(|x| x.1).collect();
+    w.n(l.len());
+    for (name, place, bits) in l {
+        w.n(place);
+        if expected {
+            w.expect(name);
+        }
+        w.n(bits as usize);
     }
 }
 
-// What document 01 asks of the voice's state in a list from a fresh voice is always answered yes: a call's other questions decide.
-fn record(out: &mut Vec<u8>, c: &Case) -> u32 {
-    let mut w = Words(out);
-    let image = c.table.bytes();
-    w.n(c.kind as usize);
-    w.n(c.channel as usize);
-    w.n(image.len());
-    w.0.extend_from_slice(&image);
-    w.f(&[c.rate]);
-    w.list(&c.centres);
-    let read = expected_read(&image, &mut Tally::default());
-    let q = read.as_ref().map_or_else(|e| *e, |t| making_question(t, c.kind, c.channel, c.rate, &c.centres));
-    [q.0 as usize, q.1, q.2].iter().for_each(|&v| w.n(v));
-    if q.0 != 0 {
-        return q.0;
+fn blank() -> Voice {
+    unsafe { std::mem::zeroed() }
+}
+
+// The voice that holds what the original's holds.
+fn voice_of(p: &Theirs, c: &Case) -> Voice {
+    let (i, mut v) = (p.inside(), blank());
+    (v.blend, v.channel) = if c.kind == 0 { (0, c.channel) } else { (1, 0) };
+    (v.count, v.k, v.m, v.j, v.live_count, v.sample_rate) = (i.entries.len(), i.k, i.m, i.j, i.live.len(), c.rate);
+    v.live[..i.live.len()].copy_from_slice(&i.live);
+    for (n, e) in i.entries.iter().enumerate() {
+        [v.f0_hz[n], v.stretch[n], v.mainlobe_gain[n], v.noise_gain[n]] = e.0;
+        e.1.iter().enumerate().for_each(|(c, row)| v.partials[n * 128 + c * 32..][..row.len()].copy_from_slice(row));
+        e.2.iter().enumerate().for_each(|(c, row)| v.noise[n * 64 + c * 16..][..row.len()].copy_from_slice(row));
     }
-    let (mut p, rung) = made(&Arc::new(read.unwrap()), c.kind, c.channel, c.rate, &c.centres).unwrap();
-    let i = p.inside();
-    [i.k, i.m, i.j].iter().for_each(|&v| w.n(v));
-    for b in 0..i.j {
-        w.n(rung[b]);
-        w.f(&i.bands[b]);
-        w.f(&[i.compensation[b]]);
+    v.bands[..i.j].copy_from_slice(&i.bands);
+    v.compensation[..i.j].copy_from_slice(&i.compensation);
+    run_to(&v, &p.running())
+}
+
+fn run_to(v: &Voice, r: &Running) -> Voice {
+    let mut v = *v;
+    v.state.phases[..r.phases.len()].copy_from_slice(&r.phases);
+    v.state.memories.iter_mut().zip(&r.memories).for_each(|(z, m)| *z = [m.0, m.1]);
+    v.state.noise = r.noise;
+    v
+}
+
+fn play_words(w: &mut Words, play: &Play) {
+    w.n(0);
+    w.n(play.samples);
+    for input in std::iter::once(&play.freq).chain(&play.gains) {
+        w.n(input.0);
+        w.floats(&input.1);
     }
-    let mut fresh: Voice = unsafe { std::mem::zeroed() };
-    fresh.sample_rate = 8000.0;
-    w.n(c.calls.len());
+    w.n(play.channels);
+    w.n(play.out_len);
+}
+
+// A call that is refused.
+fn refused(w: &mut Words, what: &'static str, number: u32, numbers: &mut [usize; 18]) {
+    w.expect(what);
+    w.n(number as usize);
+    numbers[number as usize] += 1;
+}
+
+// The calls of the case one by one; answers how many were written.
+fn calls(w: &mut Words, c: &Case, p: &mut Theirs, numbers: &mut [usize; 18]) -> usize {
+    let mut v = voice_of(p, c);
+    // a running state that both sides are given before the next accepted call
+    let mut touched: Option<Running> = None;
+    let mut n = 0;
     for call in &c.calls {
-        match call {
-            Call::Play(play) => {
-                w.n(0);
-                w.n(play.samples);
-                for input in std::iter::once(&play.freq).chain(&play.gains) {
-                    w.n(input.0);
-                    w.list(&input.1);
-                }
-                w.n(play.channels);
-                w.n(play.out_len);
-                let q = play_question(&fresh, play);
-                w.n(q as usize);
-                if q == 0 {
-                    w.f(&their_play(&mut p, play, c.rate));
-                }
+        let given = touched.as_ref().map_or(v, |r| run_to(&v, r));
+        if let Call::Touch(r) = call {
+            touched = Some(r.clone());
+            continue;
+        }
+        if let Call::Broken(which, play) = call {
+            let b = broken(&v, *which);
+            if keeps_rules(&b) {
+                continue;
             }
+            changes(w, &v, &b, false, false);
+            play_words(w, play);
+            refused(w, "the play's number", 13, numbers);
+            changes(w, &v, &b, false, false);
+            w.n(1);
+            refused(w, "the reset's number", 13, numbers);
+            changes(w, &v, &b, false, false);
+            w.n(2);
+            w.n(7);
+            refused(w, "the reseed's number", 13, numbers);
+            n += 3;
+            continue;
+        }
+        n += 1;
+        changes(w, &v, &given, false, false);
+        let mut out = Vec::new();
+        if let Call::Play(play) = call {
+            play_words(w, play);
+            let q = play_question(&given, play);
+            if q != 0 {
+                refused(w, "the play's number", q, numbers);
+                continue;
+            }
+        }
+        if let Some(r) = touched.take() {
+            p.set_running(&r);
+        }
+        match call {
+            Call::Play(play) => out = their_play(p, play, c.rate),
             Call::Reset => {
                 w.n(1);
                 p.ugen().reset();
@@ -81,31 +168,84 @@ fn record(out: &mut Vec<u8>, c: &Case) -> u32 {
             }
             Call::Touch(_) | Call::Broken(..) => unreachable!(),
         }
-        w.state(&p.running());
+        w.n(0);
+        numbers[0] += 1;
+        v = run_to(&given, &p.running());
+        changes(w, &given, &v, true, true);
+        for x in out {
+            w.expect("a sample");
+            w.f(x);
+        }
     }
-    0
+    n
+}
+
+// The record, and the making's number.
+fn record(c: &Case, image: &[u8], numbers: &mut [usize; 18]) -> (Words, u32) {
+    let mut w = Words::default();
+    w.n(c.kind as usize);
+    w.n(c.channel as usize);
+    w.part(image);
+    w.f(c.rate);
+    w.floats(&c.centres);
+    let read = expected_read(image, &mut Tally::default());
+    let q = read.as_ref().map_or_else(|e| *e, |t| making_question(t, c.kind, c.channel, c.rate, &c.centres));
+    w.answer(["the making's number", "the making's first value", "the making's second value"], q);
+    if q.0 != 0 {
+        changes(&mut w, &blank(), &blank(), false, false);
+        return (w, q.0);
+    }
+    let (mut p, rung) = made(&Arc::new(read.unwrap()), c.kind, c.channel, c.rate, &c.centres).unwrap();
+    changes(&mut w, &blank(), &voice_of(&p, c), false, true);
+    for (b, raw) in c.centres.iter().enumerate() {
+        let centre = raw.min(c.rate * 0.5 * 0.9).max(20.0);
+        w.expect("a ring count");
+        w.n(rung[b]);
+        w.expect("a noise power");
+        w.f(shim::noise_power(centre, 1.0, c.rate, p.inside().bands[b]).0);
+    }
+    let mut list = Words::default();
+    let n = calls(&mut list, c, &mut p, numbers);
+    w.n(n);
+    w.append(list);
+    (w, 0)
+}
+
+// The words of a play's slices; of a play with a count that is no word, more than any list takes.
+fn size(call: &Call) -> usize {
+    let (Call::Play(p) | Call::Broken(_, p)) = call else { return 0 };
+    let wide = [p.channels, p.freq.0].iter().chain(p.gains.iter().map(|g| &g.0)).any(|&n| n > u32::MAX as usize);
+    if wide { usize::MAX } else { p.out_len + p.freq.1.len() + p.gains.iter().map(|g| g.1.len()).sum::<usize>() }
+}
+
+// A case that is short enough for the list: one call in ten may be long.
+fn short_case(r: &mut Rand) -> Case {
+    loop {
+        let mut c = any_case(r);
+        c.calls.retain(|call| size(call) <= if r.chance(10) { 700 } else { 120 });
+        if c.table.bytes().len() <= 1200 && c.calls.iter().map(size).sum::<usize>() <= 900 {
+            return c;
+        }
+    }
 }
 
 pub fn write_list(n: usize, seed: u64, path: &str) {
     let mut r = Rand(seed);
-    let mut out = (n as u32).to_le_bytes().to_vec();
-    let mut numbers = [0; 18];
-    let mut done = 0;
-    while done < n {
-        let mut c = any_case(&mut r);
-        c.calls.retain(|call| !matches!(call, Call::Touch(_) | Call::Broken(..)));
-        let size =
-            |call: &Call| if let Call::Play(p) = call { p.out_len + p.freq.1.len() + p.gains.iter().map(|g| g.1.len()).sum::<usize>() } else { 0 };
-        let wide = c
-            .calls
-            .iter()
-            .any(|call| matches!(call, Call::Play(p) if p.channels > u32::MAX as usize || p.freq.0 > 99 || p.gains.iter().any(|g| g.0 > 99)));
-        if wide || c.calls.iter().map(size).sum::<usize>() > 500 || c.table.bytes().len() > 1200 {
-            continue;
+    let (mut made, mut played) = ([0; 18], [0; 18]);
+    let mut records = Vec::new();
+    while records.len() < n {
+        let c = short_case(&mut r);
+        // a making asks the questions of reading too
+        let image = if records.is_empty() { long_image(1) } else if r.chance(25) { image::any_image(&mut r) } else { c.table.bytes() };
+        let mut numbers = played;
+        let (one, q) = record(&c, &image, &mut numbers);
+        // no refusal takes more than a twentieth of the list
+        if q == 0 || made[q as usize] * 20 <= n {
+            made[q as usize] += 1;
+            played = numbers;
+            records.push(one);
         }
-        numbers[record(&mut out, &c) as usize] += 1;
-        done += 1;
     }
-    std::fs::write(path, &out).unwrap();
-    println!("list: {n} records of making and playing, {} bytes, makings by number {numbers:?}, to {path}", out.len());
+    words::write("making and playing", &records, path);
+    println!("list: makings by number {made:?}, calls by number {played:?}");
 }

@@ -2,6 +2,7 @@
 mod cases;
 mod comparing;
 mod list;
+mod long;
 mod original;
 mod questions;
 mod shrinking;
@@ -27,7 +28,8 @@ use original::*;
 use questions::*;
 
 pub use list::write_list;
-pub use shrinking::run;
+pub use long::long;
+pub use shrinking::{run, run_lists};
 pub use times::race;
 
 // An input: its channels (0: unconnected) and its slice.

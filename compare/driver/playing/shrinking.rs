@@ -111,3 +111,15 @@ pub fn run(voices: usize, seed: u64, tally: &mut Tally) {
         run_case(&any_case(&mut r), tally);
     }
 }
+
+// Lists of exactly that many calls, each on a voice that was made; a refused making has no list and is not counted among them.
+pub fn run_lists(lists: usize, calls: usize, seed: u64, tally: &mut Tally) {
+    let mut r = Rand(seed);
+    let mut done = 0;
+    while done < lists {
+        let before = tally.calls;
+        run_case(&case_of(&mut r, |_| calls), tally);
+        done += (tally.calls > before) as usize;
+    }
+    println!("{done} lists of {calls} calls");
+}

@@ -1,0 +1,132 @@
+// The library from Rust: reads a table, makes a voice of it, plays a block, and prints the first samples.
+// Build it beside the static library (`rt staticlib sounder`):
+//   rustc -O --edition 2024 -C link-arg=target/staticlib/libsounder.a -o target/tone examples/rust/tone.rs
+// include/sounder.h says what each function promises; the declarations below are the same.
+
+#[repr(C)]
+#[derive(Debug, PartialEq)]
+struct Answer {
+    number: u32,
+    first: usize,
+    second: usize,
+}
+
+#[repr(C)]
+#[derive(Debug)]
+struct DeskAnswer {
+    answer: Answer,
+    bands: u32,
+    min_hz: u32,
+    max_hz: u32,
+}
+
+#[repr(C)]
+#[derive(Clone, Copy)]
+struct State {
+    phases: [f32; 32],
+    memories: [[f32; 2]; 16],
+    noise: u32,
+}
+
+#[repr(C)]
+#[derive(Clone, Copy)]
+struct Voice {
+    blend: u32,
+    channel: u32,
+    count: usize,
+    k: usize,
+    m: usize,
+    j: usize,
+    live_count: usize,
+    live: [usize; 16],
+    sample_rate: f32,
+    f0_hz: [f32; 16],
+    stretch: [f32; 16],
+    mainlobe_gain: [f32; 16],
+    noise_gain: [f32; 16],
+    partials: [f32; 2048],
+    noise: [f32; 1024],
+    bands: [[f32; 5]; 16],
+    compensation: [f32; 16],
+    state: State,
+}
+
+#[repr(C)]
+struct MadeAnswer {
+    answer: Answer,
+    voice: Voice,
+}
+
+#[repr(C)]
+struct PlayedAnswer {
+    number: u32,
+    voice: Voice,
+}
+
+unsafe extern "C" {
+    fn sounder_from_bytes(image: *const u8, len: usize) -> Answer;
+    fn sounder_desk(kind: u32, channel: u32, image: *const u8, len: usize) -> DeskAnswer;
+    fn sounder_make(kind: u32, channel: u32, image: *const u8, len: usize, rate: f32, centres: *const f32, centres_len: usize) -> MadeAnswer;
+    #[rustfmt::skip]
+    fn sounder_play(
+        voice: Voice, samples: usize, freq_channels: usize, freq: *const f32, freq_len: usize,
+        g0_channels: usize, g0: *const f32, g0_len: usize, g1_channels: usize, g1: *const f32, g1_len: usize,
+        g2_channels: usize, g2: *const f32, g2_len: usize, g3_channels: usize, g3: *const f32, g3_len: usize,
+        channels: usize, out: *mut f32, out_len: usize,
+    ) -> PlayedAnswer;
+}
+
+// A table with one entry of pitch 880: one channel, three partials and a noise band.
+fn image() -> Vec<u8> {
+    let mut b = b"MSCT\x01\x00\x04\x00\x00\x00tone\x01\x00\x00\x00".to_vec();
+    let mut word = |w: u32| b.extend(w.to_le_bytes());
+    word(880f32.to_bits()); // pitch
+    word(1f32.to_bits()); // stretch
+    word(3); // partial frequencies, which no voice looks at
+    for f in [880f32, 1760.0, 2640.0] {
+        word(f.to_bits());
+    }
+    word(1); // channels
+    word(1); // noise bands
+    word(4); // coefficients
+    for c in [0.5f32, 0.25, 0.125, 0.0625] {
+        word(c.to_bits());
+    }
+    word(0); // metadata
+    b
+}
+
+// A slice that is not connected: its pointer may not be null.
+const NONE: (usize, *const f32, usize) = (0, [].as_ptr(), 0);
+
+fn main() {
+    let image = image();
+    let read = unsafe { sounder_from_bytes(image.as_ptr(), image.len()) };
+    println!("read: {read:?}");
+    assert_eq!(read, Answer { number: 0, first: 1, second: image.len() });
+
+    // the desk works out a centre for each band of the voice, between the span's ends
+    let desk = unsafe { sounder_desk(0, 0, image.as_ptr(), image.len()) };
+    println!("bands: {}, from {} to {} Hz", desk.bands, f32::from_bits(desk.min_hz), f32::from_bits(desk.max_hz));
+    assert_eq!(desk.answer.number, 0);
+    let centres = vec![1000f32; desk.bands as usize];
+
+    let made = unsafe { sounder_make(0, 0, image.as_ptr(), image.len(), 48000.0, centres.as_ptr(), centres.len()) };
+    println!("made: {:?}, {} partials", made.answer, made.voice.m);
+    assert_eq!(made.answer.number, 0);
+
+    // 128 samples of one channel at 880 Hz; the gains are not connected
+    let freq = [880f32; 128];
+    let mut out = [0f32; 128];
+    #[rustfmt::skip]
+    let played = unsafe {
+        sounder_play(
+            made.voice, 128, 1, freq.as_ptr(), freq.len(),
+            NONE.0, NONE.1, NONE.2, NONE.0, NONE.1, NONE.2, NONE.0, NONE.1, NONE.2, NONE.0, NONE.1, NONE.2,
+            1, out.as_mut_ptr(), out.len(),
+        )
+    };
+    println!("played: {}, {:?}", played.number, &out[..6]);
+    assert!(played.number == 0 && out.iter().all(|y| y.is_finite()) && out[1] != 0.0);
+    assert!(played.voice.state.phases[0] > 0.0 && played.voice.state.noise != made.voice.state.noise);
+}
