@@ -197,7 +197,7 @@ def main():
         write_array(f, 'Finite patterns, and below their values to 9 digits, which name one float each.', 'FINITE', 'u32', ['0x%08x' % n for n, _ in exact])
         write_array(f, 'Their values.', 'VALUES', 'f32', [text for _, text in exact])
     with open('crates/float_check/stdout', 'w') as f:
-        for name, cases in (('sqrt', sqrt), ('min', both), ('max', both), ('is_finite', finite), ('from_bits special', special), ('from_bits', exact)):
+        for name, cases in (('sqrt', sqrt), ('sqrt_each', sqrt), ('min', both), ('max', both), ('is_finite', finite), ('from_bits special', special), ('from_bits', exact)):
             f.write('%s %d ok\n' % (name, len(cases)))
 
 

@@ -1,0 +1,3 @@
+pub mod NarrowLaws
+pub mod FixedLaws
+pub mod ScanLaws

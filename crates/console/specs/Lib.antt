@@ -1,0 +1,5 @@
+pub mod Decimal
+pub mod Narrow
+pub mod Fixed
+pub mod File
+pub mod Centres

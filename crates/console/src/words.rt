@@ -1,0 +1,90 @@
+// What a refusal means, in words. The numbers are document 01's.
+use crate::say;
+use sounder::Answer;
+
+// The words for questions 1 to 7, of reading.
+fn reading(fd: i32, a: Answer) {
+    let number = a.number;
+    match number {
+        1 => say::text(fd, b"the file is longer than 65536 bytes"),
+        2 => say::text(fd, b"the file ends before the table does"),
+        3 => say::text(
+            fd,
+            b"the file does not start with MSCT, so it is no coefficient table",
+        ),
+        4 => {
+            say::text(fd, b"the table is of version ");
+            say::number(fd, a.first as u64);
+            say::text(fd, b", and only versions 0 and 1 are known");
+        }
+        5 => say::text(fd, b"a name in the table is not UTF-8 text"),
+        6 => {
+            say::text(fd, b"entry ");
+            say::number(fd, a.first as u64);
+            say::text(
+                fd,
+                b" has another number of coefficients than its channels, partials and bands call for",
+            );
+        }
+        _ => {
+            say::text(fd, b"the noise band span of entry ");
+            say::number(fd, a.second as u64);
+            say::text(fd, b" does not agree with that of entry ");
+            say::number(fd, a.first as u64);
+        }
+    }
+}
+
+// The words for questions 8 to 12, of making.
+fn making(fd: i32, a: Answer) {
+    let number = a.number;
+    match number {
+        8 => say::text(
+            fd,
+            b"the table has more than 16 entries, 32 partials or 16 noise bands",
+        ),
+        9 => {
+            say::text(fd, b"entry ");
+            say::number(fd, a.first as u64);
+            say::text(
+                fd,
+                b" has a pitch, stretch, coefficient or gain that is no number or out of range",
+            );
+        }
+        10 => say::text(fd, b"no entry of the table has the channel"),
+        11 => say::text(fd, b"the sample rate is not from 8000 to 192000"),
+        _ => say::text(
+            fd,
+            b"the number of band centres is not the table's number of noise bands, or one is not finite",
+        ),
+    }
+}
+
+// The words for questions 13 to 17, of playing and rewriting.
+fn playing(fd: i32, number: u32) {
+    match number {
+        13 => say::text(fd, b"the voice does not keep the voice rules"),
+        14 => say::text(fd, b"the block is not 0 to 128 samples by 1 to 8 channels"),
+        15 => say::text(fd, b"an input is not of the block's length"),
+        16 => say::text(fd, b"a frequency is above 20000 Hz"),
+        17 => say::text(fd, b"the target is too short for the rewritten table"),
+        _ => say::text(fd, b"no refusal has this number"),
+    }
+}
+
+// The number, then what it means with its values.
+pub fn refusal(fd: i32, a: Answer) {
+    say::text(fd, b"refusal ");
+    say::number(fd, a.number as u64);
+    say::text(fd, b": ");
+    if a.number < 8 {
+        reading(fd, a);
+    } else {
+        if a.number < 13 {
+            making(fd, a);
+        } else {
+            playing(fd, a.number);
+        }
+    }
+    say::text(fd, b"\n");
+}

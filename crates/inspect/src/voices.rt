@@ -1,0 +1,108 @@
+// Which voices can be made of a table, at 48,000 samples a second.
+use console::say;
+use console::words;
+use sounder::player_door::sounder_make;
+use sounder::table_door::sounder_desk;
+use table::lookup::EntryFound;
+
+// The kind of a voice: 0 is a single one of the channel, 1 a blend.
+fn say_kind(kind: u32, channel: u32) {
+    if kind == 0 {
+        say::text(1, b"  a single voice of channel ");
+        say::number(1, channel as u64);
+    } else {
+        say::text(1, b"  a blend");
+    }
+    say::text(1, b": ");
+}
+
+fn say_made(m: usize, k: usize, j: usize) {
+    say::text(1, b"can be made, with ");
+    say::number(1, m as u64);
+    say::text(1, b" partials, ");
+    say::number(1, k as u64);
+    say::text(1, b" channels and ");
+    say::number(1, j as u64);
+    say::text(1, b" noise bands\n");
+}
+
+fn try_making(image: &[u8], kind: u32, channel: u32, centres: &[f32]) {
+    let made = sounder_make(kind, channel, image, 48000.0, centres);
+    let answer = made.answer;
+    if answer.number != 0 {
+        words::refusal(1, answer);
+        return;
+    }
+    let voice = made.voice;
+    say_made(voice.m, voice.k, voice.j);
+}
+
+// With as many centres of 1,000 Hz as the voice needs, up to 16. A voice that needs more is refused by its size.
+fn with_enough(image: &[u8], kind: u32, channel: u32) {
+    let desk = sounder_desk(kind, channel, image);
+    let enough = [1000.0f32; 16];
+    let j = desk.bands as usize;
+    if j <= 16 {
+        try_making(image, kind, channel, &enough[..j]);
+    } else {
+        try_making(image, kind, channel, &enough);
+    }
+}
+
+fn voice(image: &[u8], kind: u32, channel: u32, given: bool, centres: &[f32]) {
+    say_kind(kind, channel);
+    if given {
+        try_making(image, kind, channel, centres);
+    } else {
+        with_enough(image, kind, channel);
+    }
+}
+
+fn larger(a: u32, b: u32) -> u32 {
+    if a < b { b } else { a }
+}
+
+fn channels_of(image: &[u8], i: usize) -> u32 {
+    match table::lookup::entry(image, i) {
+        EntryFound::Entry(v) => v.k_channels,
+        EntryFound::Nothing => 0,
+    }
+}
+
+// The largest channel count of the first 16 entries.
+fn channels(image: &[u8]) -> u32 {
+    let mut k: u32 = 0;
+    let mut i: usize = 0;
+    while i < 16 {
+        k = larger(k, channels_of(image, i));
+        i += 1;
+    }
+    k
+}
+
+// The noise bands' span, of the table's first entry or the default.
+fn span(image: &[u8]) {
+    let desk = sounder_desk(1, 0, image);
+    say::text(1, b"  noise band span: ");
+    say::float(1, desk.min_hz);
+    say::text(1, b" to ");
+    say::float(1, desk.max_hz);
+    say::text(1, b" Hz\n");
+}
+
+// Each channel up to 16 of them, then the blend.
+pub fn all(image: &[u8], given: bool, centres: &[f32]) {
+    span(image);
+    let k = channels(image);
+    let mut i: u32 = 0;
+    while i < k {
+        if i < 16 {
+            voice(image, 0, i, given, centres);
+        }
+        if i == 16 {
+            say::text(1, b"  and more channels\n");
+        }
+        i += 1;
+    }
+    voice(image, 1, 0, given, centres);
+}

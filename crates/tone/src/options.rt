@@ -1,0 +1,274 @@
+// What the command line asks for.
+use console::decimal;
+use console::decimal::Decimal;
+use console::decimal::DecimalRead;
+use console::decimal::Whole;
+use console::narrow::value;
+use console::say;
+
+// Arguments by their number on the command line, 0 where there is none. `skip` says that the next argument was a value.
+pub struct Options {
+    pub table: usize,
+    pub out: usize,
+    pub centres: usize,
+    pub blend: u32,
+    pub channel: u32,
+    pub rate: u32,
+    pub freq: f32,
+    pub freq_given: usize,
+    pub to: f32,
+    pub glides: bool,
+    pub gains: usize,
+    pub gain: [f32; 4],
+    pub micros: u64, // millionths of a second
+    pub seed: u32,
+    pub seeded: bool,
+    pub skip: bool,
+    pub help: bool,
+    pub failed: bool,
+}
+
+fn defaults() -> Options {
+    Options {
+        table: 0,
+        out: 0,
+        centres: 0,
+        blend: 0,
+        channel: 0,
+        rate: 48000,
+        freq: 220.0,
+        freq_given: 0,
+        to: 220.0,
+        glides: false,
+        gains: 0,
+        gain: [0.0; 4],
+        micros: 1000000,
+        seed: 0,
+        seeded: false,
+        skip: false,
+        help: false,
+        failed: false,
+    }
+}
+
+// Says what is wrong with an argument.
+fn wrong(mut o: Options, word: &[u8], why: &[u8]) -> Options {
+    say::text(2, b"tone: ");
+    say::name(2, word);
+    say::text(2, b": ");
+    say::text(2, why);
+    say::text(2, b"\n");
+    o.failed = true;
+    o
+}
+
+// The options that take a value, by number.
+fn which(word: &[u8]) -> u32 {
+    if check::same(word, b"--single") {
+        return 1;
+    }
+    if check::same(word, b"--rate") {
+        return 2;
+    }
+    if check::same(word, b"--freq") {
+        return 3;
+    }
+    if check::same(word, b"--to") {
+        return 4;
+    }
+    if check::same(word, b"--gain") {
+        return 5;
+    }
+    if check::same(word, b"--seconds") {
+        return 6;
+    }
+    if check::same(word, b"--seed") {
+        return 7;
+    }
+    if check::same(word, b"--centres") {
+        return 8;
+    }
+    0
+}
+
+fn set_whole(mut o: Options, option: u32, text: &[u8]) -> Options {
+    match decimal::read_whole(text) {
+        Whole::Refused => wrong(o, text, b"not a whole number from 0 to 4294967295"),
+        Whole::Number(n) => {
+            if option == 1 {
+                o.blend = 0;
+                o.channel = n;
+                return o;
+            }
+            if option == 2 {
+                o.rate = n;
+                return o;
+            }
+            o.seed = n;
+            o.seeded = true;
+            o
+        }
+    }
+}
+
+fn set_gain(mut o: Options, text: &[u8], x: f32) -> Options {
+    let n = o.gains;
+    if n < 4 {
+        o.gain[n] = x;
+        o.gains = n + 1;
+        return o;
+    }
+    wrong(o, text, b"a fifth gain, and a voice has at most four")
+}
+
+// Millionths of a second. More than 60 stand for too many, or for a number that is none of them.
+fn millionths(d: Decimal) -> u64 {
+    if d.negative {
+        return 0xffff_ffff;
+    }
+    if 60000000 < d.digits {
+        return 0xffff_ffff;
+    }
+    let places = d.places;
+    match places {
+        0 => d.digits * 1000000,
+        1 => d.digits * 100000,
+        2 => d.digits * 10000,
+        3 => d.digits * 1000,
+        4 => d.digits * 100,
+        5 => d.digits * 10,
+        6 => d.digits,
+        _ => 0xffff_ffff,
+    }
+}
+
+fn set_seconds(mut o: Options, text: &[u8], d: Decimal) -> Options {
+    let n = millionths(d);
+    if 60000000 < n {
+        return wrong(
+            o,
+            text,
+            b"not a number of seconds from 0 to 60 with at most six places",
+        );
+    }
+    o.micros = n;
+    o
+}
+
+fn set_decimal(mut o: Options, option: u32, text: &[u8]) -> Options {
+    match decimal::read(text) {
+        DecimalRead::Refused => wrong(o, text, b"not a decimal number of at most 15 digits"),
+        DecimalRead::Number(d) => {
+            if option == 6 {
+                return set_seconds(o, text, d);
+            }
+            let x = value(d);
+            if option == 3 {
+                o.freq = x;
+                o.freq_given = 1;
+                return o;
+            }
+            if option == 4 {
+                o.to = x;
+                o.freq_given = 1;
+                o.glides = true;
+                return o;
+            }
+            set_gain(o, text, x)
+        }
+    }
+}
+
+// An option with the value that stands in argument `i`.
+fn set(mut o: Options, option: u32, i: usize) -> Options {
+    if option == 8 {
+        o.centres = i;
+        return o;
+    }
+    let mut text = [0u8; 64];
+    let n = os::arg(i, &mut text);
+    if os::errno() != 0 {
+        return wrong(o, &text[..n], b"this number has too many digits");
+    }
+    if option == 1 {
+        return set_whole(o, option, &text[..n]);
+    }
+    if option == 2 {
+        return set_whole(o, option, &text[..n]);
+    }
+    if option == 7 {
+        return set_whole(o, option, &text[..n]);
+    }
+    set_decimal(o, option, &text[..n])
+}
+
+// A word that is no option: the table, then the file to write.
+fn place(mut o: Options, word: &[u8], i: usize) -> Options {
+    if o.table == 0 {
+        o.table = i;
+        return o;
+    }
+    if o.out == 0 {
+        o.out = i;
+        return o;
+    }
+    wrong(o, word, b"one file too many")
+}
+
+fn is_option(word: &[u8]) -> bool {
+    if word.len() < 2 {
+        return false;
+    }
+    if word[0] == 45 { word[1] == 45 } else { false }
+}
+
+fn take_word(mut o: Options, word: &[u8], i: usize, count: usize) -> Options {
+    if check::same(word, b"--help") {
+        o.help = true;
+        return o;
+    }
+    if check::same(word, b"--blend") {
+        o.blend = 1;
+        return o;
+    }
+    if !is_option(word) {
+        return place(o, word, i);
+    }
+    let option = which(word);
+    if option == 0 {
+        return wrong(o, word, b"no such option (--help tells them)");
+    }
+    if count <= i {
+        return o;
+    }
+    if count - i < 2 {
+        return wrong(o, word, b"its value is missing");
+    }
+    o.skip = true;
+    set(o, option, i + 1)
+}
+
+fn take_argument(mut o: Options, i: usize, count: usize) -> Options {
+    if o.skip {
+        o.skip = false;
+        return o;
+    }
+    let mut word = io::buffer();
+    let n = os::arg(i, &mut word);
+    if os::errno() != 0 {
+        return wrong(o, b"an argument", b"longer than 4096 bytes");
+    }
+    take_word(o, &word[..n], i, count)
+}
+
+// Reads all arguments. What is wrong with them has been said where `failed` is set.
+pub fn read() -> Options {
+    let count = os::arg_count();
+    let mut o = defaults();
+    let mut i = 1;
+    while i < count {
+        o = take_argument(o, i, count);
+        i += 1;
+    }
+    o
+}

@@ -1,0 +1,235 @@
+// The file: made under a name of its own, filled block by block, and given its name at the end.
+ghost use Prim.Native.Nat.{_≤_};
+ghost use Rattle.io.specs.Counts.{Counts};
+use crate::crc;
+use crate::options::Options;
+use crate::playing::Run;
+use crate::playing::block;
+use crate::sink;
+use crate::sink::Sink;
+use crate::wav;
+use console::say;
+use console::words;
+use player::Voice;
+use sounder::Answer;
+
+// How many samples: whole ones, of up to 60 seconds at up to 192,000 a second, so that each number of a sample is an f32.
+// More, which no voice that was made can ask for, stands for none.
+fn samples(o: Options) -> u32 {
+    if 60000000 < o.micros {
+        return 0;
+    }
+    let n = o.micros * (o.rate as u64) / 1000000;
+    if 16777216 < n { 0 } else { n as u32 }
+}
+
+fn least(a: u32, b: u32) -> u32
+    ensures { λ r. ⌜ r ≤ b ⌝ }
+{
+    if a < b { a } else { b }
+}
+
+// A line at each tenth of the blocks.
+fn progress(done: u32, blocks: u32, played: u32, total: u32) {
+    if blocks == 0 {
+        return;
+    }
+    if 131072 < done {
+        return;
+    }
+    if done == 0 {
+        return;
+    }
+    if (done - 1) * 10 / blocks < done * 10 / blocks {
+        say::text(1, b"played ");
+        say::number(1, played as u64);
+        say::text(1, b" of ");
+        say::number(1, total as u64);
+        say::text(1, b" samples\n");
+    }
+}
+
+fn is_well(run: Run) -> bool {
+    let s = run.sink;
+    if s.short {
+        return false;
+    }
+    run.number == 0
+}
+
+// One block of the total, by its number.
+fn nth(o: Options, fd: i32, run: Run, b: u32, blocks: u32, total: u32) -> Run {
+    if 131072 <= b {
+        return run;
+    }
+    let first = b * 128;
+    if total <= first {
+        return run;
+    }
+    let n = least(128, total - first);
+    let after = block(o, fd, run, first, total, n as usize);
+    if is_well(after) {
+        progress(b + 1, blocks, first + n, total);
+    }
+    after
+}
+
+// All blocks, up to the first that fails.
+fn fill(o: Options, fd: i32, start: Run, total: u32) -> Run {
+    let blocks = total / 128 + (total % 128 + 127) / 128;
+    let mut run = start;
+    let mut b = 0;
+    while b < blocks {
+        run = nth(o, fd, run, b, blocks, total);
+        if !is_well(run) {
+            return run;
+        }
+        b += 1;
+    }
+    run
+}
+
+// The header of a file of `total` samples.
+fn header(fd: i32, rate: u32, total: u32) -> Sink {
+    let s = sink::new();
+    if 0x1000_0000 < total {
+        return s;
+    }
+    if 0x1000_0000 < rate {
+        return s;
+    }
+    let s1 = sink::send(s, fd, &wav::riff(50 + total * 4));
+    let s2 = sink::send(s1, fd, &wav::format(rate, rate * 4));
+    let s3 = sink::send(s2, fd, &wav::fact(total));
+    sink::send(s3, fd, &wav::samples(total * 4))
+}
+
+// The header, then the samples.
+fn fill_file(o: Options, fd: i32, voice: Voice, total: u32) -> Run {
+    let sink = header(fd, o.rate, total);
+    let start = Run {
+        voice,
+        sink,
+        peak: 0,
+        number: 0,
+    };
+    fill(o, fd, start, total)
+}
+
+// Whether the file is there in full: every byte written, and on its device.
+fn is_whole(run: Run, fd: i32, path: &[u8]) -> bool {
+    let s = run.sink;
+    if s.short {
+        os::fail(path);
+        return false;
+    }
+    if run.number != 0 {
+        words::refusal(
+            2,
+            Answer {
+                number: run.number,
+                first: 0,
+                second: 0,
+            },
+        );
+        return false;
+    }
+    if libc::fsync(fd) < 0 {
+        os::fail(path);
+        return false;
+    }
+    true
+}
+
+fn report(path: &[u8], o: Options, run: Run, total: u32) {
+    let s = run.sink;
+    say::text(1, b"wrote ");
+    say::name(1, path);
+    say::text(1, b": ");
+    say::number(1, total as u64);
+    say::text(1, b" samples at ");
+    say::number(1, o.rate as u64);
+    say::text(1, b" a second, peak ");
+    say::float(1, run.peak);
+    say::text(1, b", CRC-32 of the file ");
+    io::print_hex(1, crc::finish(s.crc) as u64, 8);
+    if !io::write_all(1, b"\n") {
+        os::fail(b"standard output");
+    }
+}
+
+// Plays into the part, which becomes the file once it is whole, and is removed where it is not.
+fn make_file(o: Options, voice: Voice, path: &[u8], part: &[u8]) {
+    let fd = os::create(part);
+    if fd < 0 {
+        os::fail(part);
+        return;
+    }
+    let total = samples(o);
+    let run = fill_file(o, fd, voice, total);
+    let whole = is_whole(run, fd, part);
+    let closed = libc::close(fd);
+    if whole {
+        if closed < 0 {
+            os::fail(part);
+        } else {
+            if os::rename(part, path) < 0 {
+                os::fail(path);
+            } else {
+                report(path, o, run, total);
+                return;
+            }
+        }
+    }
+    os::unlink(part);
+}
+
+// Whether something has the name already, whatever it is.
+fn is_taken(mut path: [u8; 4096]) -> bool {
+    path[4095] = 0;
+    libc::access(&path, libc::F_OK) == 0
+}
+
+// Puts .part after a name of n bytes, and answers how long the two are; 0 where there is no room.
+fn put_part(path: &mut [u8], n: usize) -> usize
+    ensures { λ r. ⌜ Counts r (now (path .exit)) ⌝ }
+{
+    if path.len() < 6 {
+        return 0;
+    }
+    if path.len() - 6 < n {
+        return 0;
+    }
+    path[n] = 46;
+    path[n + 1] = 112;
+    path[n + 2] = 97;
+    path[n + 3] = 114;
+    path[n + 4] = 116;
+    n + 5
+}
+
+// The argument that names the file, with zeros after it.
+fn name_of(o: Options) -> [u8; 4096] {
+    let mut path = io::buffer();
+    os::arg(o.out, &mut path);
+    path
+}
+
+pub fn write(o: Options, voice: Voice) {
+    let mut path = io::buffer();
+    let n = os::arg(o.out, &mut path);
+    if 4080 < n {
+        say::text(2, b"tone: the name of the file to write is too long\n");
+        return;
+    }
+    let again = name_of(o);
+    if is_taken(again) {
+        say::name(2, &path[..n]);
+        say::text(2, b": there already, and tone writes over nothing\n");
+        return;
+    }
+    let mut part = io::buffer();
+    let m = os::arg(o.out, &mut part);
+    let k = put_part(&mut part, m);
+    make_file(o, voice, &path[..n], &part[..k]);
+}

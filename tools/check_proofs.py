@@ -1,0 +1,116 @@
+#!/usr/bin/env python3
+"""Checks what docs/PROOFS.md and README.md cite. Run it at the repository's root.
+
+    tools/check_proofs.py [FILE ..]     (the two where none is named)
+
+A citation is one or more names in backticks before a path in brackets: `decode`, `nameOf` (table/specs/Decode.antt). Paths are from
+the root or from crates/.
+- The path must be there, and so must each other path that the text has.
+- Each name must be defined in the file: a function, type or constant of a .rt file, a definition, theorem, field or module of an .antt
+  file; in any other file it must stand as a word.
+- Before a folder must-fail or must-fail-more the names are its edits: NAME.edit must be there, and what it replaces must stand in the file that it damages.
+- Each must-fail edit of the crates must be cited.
+It prints how many names were checked, or a list of what is wrong, with status 1.
+"""
+import re
+import sys
+from pathlib import Path
+
+ROOT = Path(__file__).resolve().parent.parent
+CITATION = re.compile(r'((?:`[^`\n]+`(?:, | and )?)+) \(([\w./-]+)\)')
+PATH = re.compile(r'(?<![\w/.])(?:[\w.-]+/)+[\w.-]*\w|(?<![\w/.-])[\w-]+\.(?:antt|rt|md|py|txt|edit|png)\b')
+ENDING = re.compile(r'\.(antt|rt|md|py|txt|edit|png|h|c|rs|msct|centres)$')
+MADE = 'target/'  # what a build makes is not in the repository
+TOP = {p.name for p in ROOT.iterdir()} | {p.name for p in (ROOT / 'crates').iterdir()}
+
+
+def find(path, doc):
+    """The file or folder of a path: from the root or crates/; a lone name also from docs/, include/, tools/ or the document's folder."""
+    for base in (ROOT, ROOT / 'crates', ROOT / 'docs', ROOT / 'include', ROOT / 'tools', doc.parent):
+        if (base / path).exists():
+            return base / path
+    return None
+
+
+def is_defined(name, file):
+    text = file.read_text()
+    word = re.escape(name)
+    if file.suffix == '.rt':
+        return re.search(rf'\b(fn|struct|enum|const|mod)\s+{word}\b', text)
+    if file.suffix == '.antt':
+        return re.search(rf'^\s*((abbrev|unfoldable|pub|record|data)\s+)*{word}\s*[:({{]', text, re.M)
+    return re.search(rf'(?<!\w){word}(?!\w)', text)
+
+
+def edit_faults(name, folder):
+    """What is wrong with an edit: it is not there, or no longer fits the file that it damages."""
+    edit = folder / f'{name}.edit'
+    if not edit.exists():
+        return [f'no edit {name}']
+    faults, damaged = [], None
+    for line in edit.read_text().splitlines():
+        if line.startswith('file: '):
+            damaged = folder.parent / line[6:]
+            if not damaged.exists():
+                return [f'the edit {name} damages {line[6:]}, which is not there']
+        elif line.startswith('old: ') and line[5:] not in damaged.read_text():
+            faults.append(f'the edit {name} replaces what is not in {damaged.name}')
+    return faults
+
+
+class Check:
+    """What was checked, and what is wrong."""
+
+    def __init__(self):
+        self.names = 0
+        self.paths = set()
+        self.edits = set()  # the must-fail edits that were cited
+        self.wrong = []
+
+    def citation(self, names, path, place):
+        """Names beside a path: a list of what is wrong."""
+        self.names += len(names)
+        if not place.is_dir():
+            return [f'{path} has no {name}' for name in names if not is_defined(name, place)]
+        self.edits |= {place / f'{name}.edit' for name in names}
+        return [f'{path}: {words}' for name in names for words in edit_faults(name, place)]
+
+    def line(self, line, doc):
+        faults, missing = [], set()
+        cited = [(re.findall(r'`([^`]+)`', names), path) for names, path in CITATION.findall(line)]
+        for names, path in cited:
+            place = find(path, doc)
+            if place:
+                faults += self.citation(names, path, place)
+            elif '/' in path or ENDING.search(path):
+                missing.add(path)  # else it is a remark in brackets
+        for path in PATH.findall(line):
+            if (ENDING.search(path) or path.split('/')[0] in TOP) and not path.startswith(MADE):
+                self.paths.add(path)
+                if not find(path, doc):
+                    missing.add(path)
+        return faults + [f'no file {path}' for path in sorted(missing)]
+
+    def document(self, doc):
+        for number, line in enumerate(doc.read_text().splitlines(), 1):
+            self.wrong += [f'{doc.name}:{number}: {words}' for words in self.line(line, doc)]
+
+    def left_out(self):
+        for edit in sorted((ROOT / 'crates').glob('*/must-fail*/*.edit')):
+            if edit not in self.edits:
+                self.wrong.append(f'{edit.relative_to(ROOT)} is not cited')
+
+
+def main():
+    docs = [Path(a).resolve() for a in sys.argv[1:]] or [ROOT / 'docs/PROOFS.md', ROOT / 'README.md']
+    check = Check()
+    for doc in docs:
+        check.document(doc)
+    check.left_out()
+    for line in check.wrong:
+        print(line)
+    print(f'{check.names} names and {len(check.edits)} must-fail edits in {len(check.paths)} files and folders checked, {len(check.wrong)} wrong')
+    sys.exit(1 if check.wrong else 0)
+
+
+main()

@@ -1,0 +1,149 @@
+#!/usr/bin/env python3
+"""Makes the example tables and their band centres in examples/.
+
+    tools/make_examples.py            writes the files
+    tools/make_examples.py --check    compares them with what it would write; status 1 where one differs
+
+A table has partials and noise bands for a few pitches. It has no envelope: how a tone starts and dies away, and how often it ticks, is
+the controller's doing, by the gain that it plays the voice with.
+
+The centres of the noise bands follow the rule of the original (`noise_band_centers` in partials.rs): band j of n stands at the
+fraction (j + 1) / (n + 1) of the way from the span's lower to its upper end on the mel scale, mel = 2595 log10(1 + hz / 700). It is
+worked out here in double precision and rounded to f32 once, and written with 9 digits, from which the f32 comes back.
+"""
+import math
+import struct
+import sys
+from pathlib import Path
+
+HERE = Path(__file__).resolve().parent.parent / 'examples'
+
+
+def f32(x):
+    """The f32 nearest to x."""
+    return struct.unpack('<f', struct.pack('<f', x))[0]
+
+
+def string(s):
+    b = s.encode()
+    return struct.pack('<I', len(b)) + b
+
+
+def entry(pitch, stretch, partials, rows, bands, metadata):
+    """An entry: rows[channel] is the list of M partial coefficients and then j noise ones."""
+    out = struct.pack('<ff', pitch, stretch)
+    out += struct.pack('<I', len(partials)) + b''.join(struct.pack('<f', p) for p in partials)
+    out += struct.pack('<II', len(rows), bands)
+    flat = [c for row in rows for c in row]
+    assert all(len(row) == len(partials) + bands for row in rows)
+    out += struct.pack('<I', len(flat)) + b''.join(struct.pack('<f', c) for c in flat)
+    out += struct.pack('<I', len(metadata)) + b''.join(string(k) + struct.pack('<f', v) for k, v in metadata)
+    return out
+
+
+def table(name, entries):
+    return b'MSCT' + struct.pack('<H', 1) + string(name) + struct.pack('<I', len(entries)) + b''.join(entries)
+
+
+def unit(weights):
+    """Weights scaled so that their sum is 1."""
+    s = sum(weights)
+    return [w / s for w in weights]
+
+
+def centres(n, lo, hi):
+    """The original's rule: n interior points, equally spaced on the mel scale."""
+    mel = lambda hz: 2595.0 * math.log10(1.0 + hz / 700.0)
+    hertz = lambda m: 700.0 * (10.0 ** (m / 2595.0) - 1.0)
+    return [f32(hertz(mel(lo) + (j + 1) / (n + 1) * (mel(hi) - mel(lo)))) for j in range(n)]
+
+
+def decimal(x):
+    """x with 9 digits; the rule by which the programs read it (digits over a power of ten in f64, then the nearest f32) gives x back."""
+    s = f'{x:.9g}'
+    digits, _, places = s.partition('.')
+    assert 'e' not in s and f32(int(digits + places) / 10 ** len(places)) == x, s
+    return s
+
+
+def centres_file(what, n, lo, hi):
+    lines = [f'# Centres of the {n} noise bands of {what}, in Hz: mel-spaced from {lo:g} to {hi:g}.',
+             '# Worked out once by tools/make_examples.py; each is an f32.']
+    return '\n'.join(lines + [decimal(c) for c in centres(n, lo, hi)]) + '\n'
+
+
+def locating_tone():
+    """The slow tick that tells where the button is: a wooden knock. A few partials, stretched as those of a bar are, that fall off
+    quickly, and as much noise around them: four bands from 400 to 6,000 Hz. Played for a few hundredths of a second, once a second
+    or slower."""
+    span = [('noise_band_min_hz', 400.0), ('noise_band_max_hz', 6000.0)]
+    out = []
+    for pitch, bright in ((440.0, 0.45), (880.0, 0.55), (1760.0, 0.65)):
+        partials = [bright ** m for m in range(8)]
+        noise = [1.0, 0.8, 0.5, 0.25]
+        row = [0.6 * w for w in unit(partials)] + [0.4 * w for w in unit(noise)]
+        out.append(entry(pitch, 1.006, [pitch * (m + 1) for m in range(8)], [row], 4,
+                         [('mainlobe_gain', 1.0), ('noise_gain', 0.25)] + span))
+    return table('locating tone', out)
+
+
+def green_man():
+    """The quick tone while the green man shows, as a blend of four channels. Channel 0 is a reedy body of odd partials, 1 a sweet octave
+    above, 2 a bright edge that carries over traffic, and 3 the rush of air: six noise bands in the default span. The blend's gains
+    say how much of each is heard."""
+    out = []
+    for pitch, edge in ((500.0, 1.0), (1000.0, 0.8), (2000.0, 0.6), (4000.0, 0.35)):
+        m = 12
+        body = unit([1.0 / k if k % 2 else 0.02 for k in range(1, m + 1)]) + [0.0] * 6
+        sweet = unit([0.0 if k % 2 else 1.0 / (k * k) for k in range(1, m + 1)]) + [0.0] * 6
+        bright = unit([edge / (1 + abs(k - 6)) if k > 2 else 0.0 for k in range(1, m + 1)]) + [0.0] * 6
+        air = [0.0] * m + unit([0.2, 0.6, 1.0, 1.0, 0.7, 0.3])
+        out.append(entry(pitch, 1.0, [pitch * k for k in range(1, m + 1)], [body, sweet, bright, air], 6,
+                         [('mainlobe_gain', 0.9), ('noise_gain', 0.3)]))
+    return table('green man', out)
+
+
+def pelican():
+    """One pure tone without noise, for the simplest trial: a single entry and channel."""
+    return table('plain beep', [entry(1000.0, 1.0, [1000.0, 2000.0], [[0.9, 0.1]], 0, [])])
+
+
+def odd():
+    """What inspect has to print and no voice can be made of: odd floats, and a name with a control character and a backslash."""
+    bits = lambda n: struct.unpack('<f', struct.pack('<I', n))[0]
+    pitches = [3.4028234663852886e38, 1e-45, 16777216.0, 0.0000005, 0.00000149999, 12345.6787109375, float('inf'), float('-inf'), -0.0, bits(0x7FC00000)]
+    return table('odd\n\\ Gr\u00fcn', [entry(p, -1.5, [], [[]], 0, [('noise_gain', p)]) for p in pitches])
+
+
+def files():
+    run = '../crates/inspect/data/'
+    return {
+        run + 'green-man.msct': green_man(),
+        run + 'odd.msct': odd(),
+        run + 'version-2.msct': b'MSCT' + struct.pack('<H', 2),
+        '../crates/tone/data/green-man.msct': green_man(),
+        '../crates/tone/data/green-man.centres': centres_file('green-man.msct', 6, 80.0, 12000.0).encode(),
+        'locating-tone.msct': locating_tone(),
+        'locating-tone.centres': centres_file('locating-tone.msct', 4, 400.0, 6000.0).encode(),
+        'green-man.msct': green_man(),
+        'green-man.centres': centres_file('green-man.msct', 6, 80.0, 12000.0).encode(),
+        'plain-beep.msct': pelican(),
+    }
+
+
+def main():
+    wrong = 0
+    for name, data in files().items():
+        path = HERE / name
+        if sys.argv[1:] == ['--check']:
+            same = path.exists() and path.read_bytes() == data
+            wrong += not same
+            print(f'{name}: {"as made" if same else "DIFFERS"}, {len(data)} bytes')
+        else:
+            path.write_bytes(data)
+            print(f'{name}: {len(data)} bytes')
+    return 1 if wrong else 0
+
+
+if __name__ == '__main__':
+    sys.exit(main())
