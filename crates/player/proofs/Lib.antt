@@ -3,7 +3,6 @@ pub mod Line
 pub mod Apart
 pub mod SineLaws
 pub mod Waves
-pub mod WaveColumns
 pub mod NoiseLaws
 pub mod PhaseLaws
 pub mod BandLaws

@@ -8,7 +8,7 @@ use lib.Ieee.{nan}
 use Rattle.player.specs.Lists.{Filled}
 use Rattle.player.specs.Sines.{indexOf, startOf, riseOf, Cell}
 use Rattle.player.proofs.Waves.{start-is, rise-is}
-use Rattle.player.proofs.WaveColumns.{filled-none, filled-more, filled-full}
+use Rattle.player.proofs.ColumnLaws.{filled-none, filled-again, filled-full}
 use Rattle.player.proofs.sines.lines.Statement.{statement}
 use Rattle.player.proofs.sines.lines.Tie as tie
 
@@ -82,8 +82,8 @@ loop-again c =
       omega arith,
       simp length-set (l .inv .1),
       simp length-set (l .inv .2),
-      filled-more (l .starts) (λ j. startOf (indexOf (getD (s .args .cells .now) j nan))) (l .i) _ room (l .inv .3) (start-is (s .args .wave .now) (s .pre .0) _ h),
-      filled-more (l .rises) (λ j. riseOf (indexOf (getD (s .args .cells .now) j nan))) (l .i) _ room2 (l .inv .4) (rise-is (s .args .wave .now) (s .pre .0) _ h),
+      filled-again (λ j. startOf (indexOf (getD (s .args .cells .now) j nan))) (l .starts) (l .i) _ room (start-is (s .args .wave .now) (s .pre .0) _ h) (l .inv .3),
+      filled-again (λ j. riseOf (indexOf (getD (s .args .cells .now) j nan))) (l .rises) (l .i) _ room2 (rise-is (s .args .wave .now) (s .pre .0) _ h) (l .inv .4),
     )
 
 same-length : tie.Need-same-length Inv-loop μ-loop

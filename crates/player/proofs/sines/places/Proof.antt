@@ -11,7 +11,7 @@ use Rattle.player.specs.Phase.{Phase}
 use Rattle.player.specs.Wave.{placeOf, restOf}
 use Rattle.player.specs.Sines.{cellFloat, Cell, AllCells}
 use Rattle.player.proofs.Waves.{place-small, phase-cell, cells-none, cells-more, cells-full}
-use Rattle.player.proofs.WaveColumns.{filled-none, filled-more, filled-full}
+use Rattle.player.proofs.ColumnLaws.{filled-none, filled-again, filled-full}
 use Rattle.player.proofs.sines.places.Statement.{statement}
 use Rattle.player.proofs.sines.places.Tie as tie
 
@@ -77,9 +77,9 @@ loop-again c =
       omega arith,
       simp length-set (l .inv .1),
       simp length-set (l .inv .2),
-      filled-more (l .cells) (λ j. cellFloat (getD (s .args .phases .now) j nan)) (l .i) _ room (l .inv .3) e,
+      filled-again (λ j. cellFloat (getD (s .args .phases .now) j nan)) (l .cells) (l .i) _ room e (l .inv .3),
       cells-more (l .cells) (l .i) _ room (l .inv .4) (subst Cell (sym e) (phase-cell p (held (c .before)) (is-phase (c .before)))),
-      filled-more (l .rests) (λ j. restOf (getD (s .args .phases .now) j nan)) (l .i) _ room2 (l .inv .5) (ap (λ (z : Float). sub binary32 (placeOf p) z) e),
+      filled-again (λ j. restOf (getD (s .args .phases .now) j nan)) (l .rests) (l .i) _ room2 (ap (λ (z : Float). sub binary32 (placeOf p) z) e) (l .inv .5),
     )
 
 same-length : tie.Need-same-length Inv-loop μ-loop

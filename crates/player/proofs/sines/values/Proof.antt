@@ -7,7 +7,7 @@ use lib.ListN.{length, getD, length-set}
 use lib.Ieee.{Float, nan, ofBits}
 use Rattle.player.specs.Lists.{Filled}
 use Rattle.player.specs.Sines.{lineAt}
-use Rattle.player.proofs.WaveColumns.{Kept, filled-none, filled-more, filled-full, kept-all, kept-more}
+use Rattle.player.proofs.ColumnLaws.{Kept, filled-none, filled-again, filled-full, kept-all, kept-again}
 use Rattle.player.proofs.sines.values.Statement.{statement}
 use Rattle.player.proofs.sines.values.Tie as tie
 
@@ -19,7 +19,7 @@ abbrev μ-loop : tie.MeasureT-loop
 μ-loop sines₀ rests rises m i₀ sines i = m - i
 
 loop-holds : tie.Need-loop-holds Inv-loop μ-loop
-loop-holds c = (omega arith, refl, filled-none _ _, kept-all _ _)
+loop-holds c = (omega arith, refl, filled-none _ _, kept-all _)
 
 mul-sines : tie.Need-mul-sines Inv-loop μ-loop
 mul-sines c = search needs
@@ -60,9 +60,8 @@ loop-again c =
     let room : i < length (l .sines) = omega (arith, l .inv .1) in (
       omega arith,
       simp length-set (l .inv .1),
-      filled-more (l .sines) (λ j. lineAt (getD (s .args .sines .now) j nan) (getD (s .args .rests .now) j nan) (getD (s .args .rises .now) j nan)) i _ room (l .inv .2)
-          (ap (λ (z : Float). lineAt z (getD (s .args .rests .now) i nan) (getD (s .args .rises .now) i nan)) (l .inv .3 .at i (omega arith))),
-      kept-more (l .sines) (s .args .sines .now) i _ (l .inv .3),
+      filled-again (λ j. lineAt (getD (s .args .sines .now) j nan) (getD (s .args .rests .now) j nan) (getD (s .args .rises .now) j nan)) (l .sines) i _ room (ap (λ (z : Float). lineAt z (getD (s .args .rests .now) i nan) (getD (s .args .rises .now) i nan)) (l .inv .3 .at i (omega arith))) (l .inv .2),
+      kept-again (l .sines) (s .args .sines .now) i _ (l .inv .3),
     )
 
 same-length : tie.Need-same-length Inv-loop μ-loop
