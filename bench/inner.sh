@@ -1,18 +1,18 @@
 #!/bin/sh
 # Times the inner functions (phase step, wave, square root and sixteen of them, a step of the ring) beside the same Rust, in one run.
-# The player's modules are private, so a copy of the crates under target/ is built with them open.
+# The modules of filters and player are private, so a copy of the crates under target/ is built with them open.
 set -eu
 cd "$(dirname "$0")/.."
 work=target/bench-inner
 rm -rf "$work"
 mkdir -p "$work/crates/probe/src"
-for c in float wire wave_table player; do
+for c in float wire wave_table filters player; do
     mkdir -p "$work/crates/$c"
     cp -r "crates/$c/src" "crates/$c/specs" "crates/$c/proofs" "$work/crates/$c/"
 done
-sed -i 's/^mod /pub mod /' "$work/crates/player/src/lib.rt"
+sed -i 's/^mod /pub mod /' "$work/crates/filters/src/lib.rt" "$work/crates/player/src/lib.rt"
 cp bench/probe.rt.txt "$work/crates/probe/src/lib.rt"
-{ grep -E '^(float|wire|wave_table|player):' crates.txt; echo 'probe: player wave_table float wire'; } > "$work/crates.txt"
+{ grep -E '^(float|wire|wave_table|filters|player):' crates.txt; echo 'probe: player filters wave_table float wire'; } > "$work/crates.txt"
 (cd "$work" && rt staticlib probe > build.log 2>&1) || { tail -5 "$work/build.log"; exit 1; }
 rustc -O --edition 2021 -o "$work/inner" bench/inner.rs -L "$work/target/staticlib" -l static=probe
 "$work/inner"

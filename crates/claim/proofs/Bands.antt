@@ -16,11 +16,11 @@ use Rattle.wire.specs.Parse.{pick}
 use Rattle.table.specs.declared.desk.Kind.{Kind}
 use Rattle.table.specs.Table.{PitchEntry}
 use Rattle.player.specs.Lists.{mapTo, steps}
-use Rattle.player.specs.Filters.{tickOf}
+use Rattle.filters.specs.Biquad.{tickOf}
 use Rattle.player.specs.Sound.{noCoeffs, noState}
 use Rattle.making.specs.Making.{isLive, liveBands}
-use Rattle.player.specs.declared.filters.BiquadCoeffs.{BiquadCoeffs}
-use Rattle.player.specs.declared.filters.BiquadState.{BiquadState}
+use Rattle.filters.specs.declared.biquad.BiquadCoeffs.{BiquadCoeffs}
+use Rattle.filters.specs.declared.biquad.BiquadState.{BiquadState}
 use Rattle.claim.specs.Machine.{isIn, tick}
 use Rattle.claim.proofs.Folds.{mapTo-next, mapTo-stays}
 

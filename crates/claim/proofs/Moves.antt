@@ -14,20 +14,20 @@ use Rattle.wire.specs.Parse.{pick}
 use Rattle.table.specs.declared.desk.Kind.{Kind}
 use Rattle.table.specs.Table.{PitchEntry}
 use Rattle.table.specs.Desk.{bandCount}
-use Rattle.player.specs.F32.{_⊗_, nearest}
+use Rattle.float.specs.F32.{_⊗_, nearest}
 use Rattle.player.specs.Lists.{mapTo, steps, upTo, padded}
 use Rattle.player.specs.Phase.{advanceOf, stepOf, inverseOf}
-use Rattle.player.specs.Rng.{stepped, bipolarOf, nextBipolar, newRng}
-use Rattle.player.specs.Filters.{cleared, noiseBand}
+use Rattle.filters.specs.Rng.{stepped, bipolarOf, nextBipolar, newRng}
+use Rattle.filters.specs.Biquad.{cleared, noiseBand}
 use Rattle.player.specs.Input.{frequencyAt, cleaned}
 use Rattle.player.specs.Voice.{keepsRules, withState, firstState}
 use Rattle.player.specs.Sound.{noCoeffs, unitVariance, noiseIn, sidesAt, stretchAt, movedPhases, movedRng, movedMemories, moved}
 use Rattle.player.specs.Block.{stateAt}
 use Rattle.player.specs.Play.{accepted, playQuestion, played, resetOf, reseedOf, reseededState}
 use Rattle.making.specs.Making.{f32, voiceEntries, liveBands, isLive, freshVoice}
-use Rattle.player.specs.Band.{zeroCoeffs}
-use Rattle.player.specs.declared.filters.BiquadState.{BiquadState}
-use Rattle.player.specs.declared.rng.Rng.{Rng}
+use Rattle.filters.specs.Band.{zeroCoeffs}
+use Rattle.filters.specs.declared.biquad.BiquadState.{BiquadState}
+use Rattle.filters.specs.declared.rng.Rng.{Rng}
 use Rattle.player.specs.declared.voice.State.{State}
 use Rattle.player.specs.declared.voice.Voice.{Voice}
 use Rattle.claim.specs.Machine.{Plain, plainFrom, Machine, Event, frequency, seed, startFrom, gain, tick, stretchOf, noiseNext, atFrequency, move, machineFrom}

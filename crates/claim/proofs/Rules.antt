@@ -16,9 +16,9 @@ use Rattle.wire.specs.Parse.{pick}
 use Rattle.float.specs.Range.{Within}
 use Rattle.float.proofs.Finite.{shown}
 use Rattle.float.proofs.Bounds.{le-or-lt}
-use Rattle.player.specs.F32.{nearest}
+use Rattle.float.specs.F32.{nearest}
 use Rattle.player.specs.Phase.{Step, advanceOf}
-use Rattle.player.specs.Rate.{Rate}
+use Rattle.filters.specs.Rate.{Rate}
 use Rattle.player.specs.Lists.{mapTo, steps, every}
 use Rattle.player.specs.Input.{Gains, inputAt, frequencyAt, frequencyOk, frequenciesOk, cleaned}
 use Rattle.player.specs.Voice.{phaseOk, pitchOk, stretchOk, rateOk, pitchesAscend, countsOk, entriesOk, liveOk, phasesOk, keepsRules, withState, firstState}
@@ -30,7 +30,7 @@ use Rattle.player.specs.declared.input.Input.the-variants.{Unconnected, Channel
 use Rattle.player.specs.declared.voice.State.{State}
 use Rattle.player.specs.declared.voice.Voice.{Voice}
 use Rattle.player.proofs.PhaseLaws.{step-step}
-use Rattle.player.proofs.Tests.{rate-is}
+use Rattle.filters.proofs.Tests.{rate-is}
 use Rattle.player.proofs.RangeLaws.{advance-ok, phase-passes}
 use Rattle.player.proofs.SoundLaws.{cleaned-within}
 use Rattle.claim.specs.Calls.{Call, play, resetCall, reseed, after, run, AllF32, CallF32, CallsF32}

@@ -14,7 +14,7 @@ use Rattle.float.specs.Range.{plain, Within}
 use Rattle.float.proofs.Finite.{shown}
 use Rattle.float.proofs.Within.{cross→le, cross→lt}
 use Rattle.float.proofs.Bounds.{le-or-lt}
-use Rattle.player.specs.F32.{nearest}
+use Rattle.float.specs.F32.{nearest}
 use Rattle.player.specs.Share.{shareOf}
 use Rattle.player.specs.declared.bracket.Bracket.the-variants.{One}
 use Rattle.player.specs.Voice.{pitchOk, stretchOk}

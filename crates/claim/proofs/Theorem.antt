@@ -12,7 +12,7 @@ use Rattle.table.specs.declared.desk.Kind.{Kind}
 use Rattle.wire.specs.Parse.{Parsed}
 use Rattle.table.specs.Table.{PitchEntry, CoeffTable}
 use Rattle.table.specs.Decode.{decode, entriesOf}
-use Rattle.player.specs.F32.{nearest}
+use Rattle.float.specs.F32.{nearest}
 use Rattle.player.specs.Voice.{phaseOk, phasesOk, keepsRules, firstState}
 use Rattle.player.specs.Play.{accepted}
 use Rattle.making.specs.Making.{f32, voiceEntries, freshVoice, blankVoice, makeQuestion, makeOf}

@@ -11,10 +11,10 @@ use Rattle.table.specs.Answer.{counts}
 use Rattle.table.specs.Encode.{encode}
 use Rattle.table.specs.Rewrite.{rewriting, rewritten}
 use Rattle.player.specs.declared.bracket.Bracket.{Bracket}
-use Rattle.player.specs.F32.{nearest}
+use Rattle.float.specs.F32.{nearest}
 use Rattle.wave_table.specs.Wave.{quarterOf}
 use Rattle.player.specs.Phase.{advanceOf}
-use Rattle.player.specs.Rng.{newRng, nextBipolar}
+use Rattle.filters.specs.Rng.{newRng, nextBipolar}
 use Rattle.player.specs.Bracket.{bracketOf}
 
 -- `4D 53 43 54`, a version, then eight zero bytes

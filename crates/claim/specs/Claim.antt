@@ -7,7 +7,7 @@ use lib.ListN.{getD}
 use lib.Ieee.{Float, nan, le, lt}
 use Rattle.table.specs.declared.desk.Kind.{Kind}
 use Rattle.player.specs.declared.voice.Voice.{Voice}
-use Rattle.player.specs.F32.{nearest}
+use Rattle.float.specs.F32.{nearest}
 use Rattle.player.specs.Voice.{keepsRules}
 use Rattle.making.specs.Making.{makeOf}
 use Rattle.claim.specs.Machine.{machine, plainOf}

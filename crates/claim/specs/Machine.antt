@@ -11,12 +11,12 @@ use Rattle.table.specs.declared.desk.Kind.{Kind}
 use Rattle.table.specs.Table.{PitchEntry}
 use Rattle.table.specs.Decode.{decode, entriesOf}
 use Rattle.table.specs.Desk.{bandCount}
-use Rattle.player.specs.declared.filters.BiquadCoeffs.{BiquadCoeffs}
-use Rattle.player.specs.declared.filters.BiquadState.{BiquadState}
-use Rattle.player.specs.F32.{_⊗_, nearest}
+use Rattle.filters.specs.declared.biquad.BiquadCoeffs.{BiquadCoeffs}
+use Rattle.filters.specs.declared.biquad.BiquadState.{BiquadState}
+use Rattle.float.specs.F32.{_⊗_, nearest}
 use Rattle.player.specs.Phase.{advanceOf, inverseOf, stepOf}
-use Rattle.player.specs.Rng.{stepped, bipolarOf, newRng, defaultSeed}
-use Rattle.player.specs.Filters.{noiseBand, cleared, tickOf}
+use Rattle.filters.specs.Rng.{stepped, bipolarOf, newRng, defaultSeed}
+use Rattle.filters.specs.Biquad.{noiseBand, cleared, tickOf}
 use Rattle.player.specs.Input.{cleaned}
 use Rattle.player.specs.Bracket.{bracketOf, sidesOf, between}
 use Rattle.player.specs.Sound.{unitVariance, noCoeffs}

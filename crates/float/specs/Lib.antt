@@ -1,3 +1,4 @@
+pub mod F32
 pub mod Range
 pub mod Fraction
 pub mod Lerp

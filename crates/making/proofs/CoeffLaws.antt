@@ -18,7 +18,7 @@ use Rattle.table.specs.Table.{PitchEntry, mPartials, coefficientAt}
 use Rattle.table.specs.View.{entryAt}
 use Rattle.table.proofs.WordLaws.{length-words}
 use Rattle.table.proofs.EntryLaws.{coefficient-is}
-use Rattle.player.specs.F32.{nearest}
+use Rattle.float.specs.F32.{nearest}
 use Rattle.making.specs.Making.{f32, sizesOk, partialCoeff, noiseCoeff, isNonzero, reach, reachIn, liveIn}
 use Rattle.making.specs.Views.{formed}
 use Rattle.player.proofs.Loops.{both-true}

@@ -12,7 +12,7 @@ use Rattle.table.specs.declared.entry.EntryView.{EntryView}
 use Rattle.table.specs.declared.desk.Kind.{Kind}
 use Rattle.table.specs.Table.{PitchEntry}
 use Rattle.table.specs.View.{entryAt}
-use Rattle.player.specs.F32.{nearest}
+use Rattle.float.specs.F32.{nearest}
 use Rattle.making.specs.Making.{partialCoeff, noiseCoeff, inSlot, slotChannel, ofEntry, nth, partialPlace, noisePlace}
 use Rattle.making.specs.Views.{viewed}
 use Rattle.making.specs.Views.{noView}

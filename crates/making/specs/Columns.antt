@@ -2,11 +2,11 @@
 use mathlib.Core.List.{List, map}
 use lib.Ieee.{Float}
 use Rattle.table.specs.Table.{PitchEntry}
-use Rattle.player.specs.F32.{nearest}
+use Rattle.float.specs.F32.{nearest}
 use Rattle.player.specs.Lists.{padded}
-use Rattle.player.specs.Filters.{noiseBand}
+use Rattle.filters.specs.Biquad.{noiseBand}
 use Rattle.making.specs.Making.{f32, gainOf, mainlobeKey, noiseGainKey}
-use Rattle.player.specs.Band.{zeroCoeffs, bandCompensation}
+use Rattle.filters.specs.Band.{zeroCoeffs, bandCompensation}
 use Rattle.making.specs.declared.fill.Columns.{Columns}
 use Rattle.making.specs.declared.init.Bands.{Bands}
 

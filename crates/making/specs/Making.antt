@@ -12,10 +12,10 @@ use Rattle.table.specs.declared.desk.Kind.{Kind}
 use Rattle.table.specs.Table.{PitchEntry, CoeffTable, mPartials, hasChannel, coefficientAt, metadataValue}
 use Rattle.table.specs.Decode.{decode, entriesOf}
 use Rattle.table.specs.Desk.{bandCount}
-use Rattle.player.specs.F32.{nearest}
+use Rattle.float.specs.F32.{nearest}
 use Rattle.player.specs.Lists.{upTo, padded}
-use Rattle.player.specs.Filters.{noiseBand}
-use Rattle.player.specs.Band.{zeroCoeffs, bandCompensation}
+use Rattle.filters.specs.Biquad.{noiseBand}
+use Rattle.filters.specs.Band.{zeroCoeffs, bandCompensation}
 use Rattle.player.specs.Voice.{pitchOk, stretchOk, rateOk, firstState}
 use Rattle.player.specs.Play.{accepted}
 use Rattle.player.specs.declared.voice.Voice.{Voice}

@@ -4,10 +4,10 @@ ghost use Prim.Native.Nat.{_≤_};
 ghost use lib.ListN.{length};
 ghost use mathlib.Core.Bool.{true};
 ghost use Rattle.player.specs.Voice.{rateOk};
-ghost use Rattle.player.specs.Band.{zeroCoeffs};
+ghost use Rattle.filters.specs.Band.{zeroCoeffs};
 ghost use Rattle.making.specs.Columns.{bandsFrom};
-use player::BiquadCoeffs;
-use player::init_band;
+use filters::BiquadCoeffs;
+use filters::init_band;
 
 pub struct Bands {
     pub coeffs: [BiquadCoeffs; 16],

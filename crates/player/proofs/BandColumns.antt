@@ -15,17 +15,17 @@ use borrow.Author.Tests.{eq-eqb, ltb-true}
 use Rattle.wire.specs.Parse.{pick}
 use Rattle.float.specs.Sqrt.{sqrt}
 use Rattle.float.proofs.Identities.{add-minus-zero}
-use Rattle.player.specs.F32.{_⊕_, _⊗_, nearest}
+use Rattle.float.specs.F32.{_⊕_, _⊗_, nearest}
 use Rattle.player.specs.Lists.{Filled, FilledRows, steps, every}
-use Rattle.player.specs.Filters.{tickOf}
+use Rattle.filters.specs.Biquad.{tickOf}
 use Rattle.player.specs.Bracket.{between}
 use Rattle.player.specs.Voice.{bandsAscend, liveOk, keepsRules}
 use Rattle.player.specs.Sound.{noCoeffs, noState, sidesAt, noiseRow, partialSum, noiseIn, Mix, addNoiseSingle, addNoiseBlend, blendPower, noiseTerm, bandStep, mixed, mixAt, sound, movedMemories, moved}
 use Rattle.player.specs.Columns.{LiveIn, stateOfColumns, Memories, Coeffs, Ticked, minusZero, singleTerm, blendTerm}
 use Rattle.player.specs.declared.bracket.Sides.{Sides}
-use Rattle.player.specs.declared.filters.BiquadState.{BiquadState}
-use Rattle.player.specs.declared.filters.Tick.{Tick}
-use Rattle.player.specs.declared.rng.Rng.{Rng}
+use Rattle.filters.specs.declared.biquad.BiquadState.{BiquadState}
+use Rattle.filters.specs.declared.biquad.Tick.{Tick}
+use Rattle.filters.specs.declared.rng.Rng.{Rng}
 use Rattle.player.specs.declared.voice.State.{State}
 use Rattle.player.specs.declared.voice.Voice.{Voice}
 use Rattle.player.proofs.Loops.{both-true, every-at}

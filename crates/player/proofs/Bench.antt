@@ -5,9 +5,9 @@ use mathlib.Core.List.{List, [], _∷_}
 use mathlib.Core.Bool.{false}
 use lib.Ieee.{Float, round, add, sub, div, ofInt, toUnsigned, lt, eq, le}
 use lib.Ieee.Exact.{HasValue}
-use Rattle.player.specs.F32.{nearest}
+use Rattle.float.specs.F32.{nearest}
 use Rattle.player.specs.Phase.{advanceOf}
-use Rattle.player.specs.Rng.{bipolarOf, newRng, nextBipolar}
+use Rattle.filters.specs.Rng.{bipolarOf, newRng, nextBipolar}
 use Rattle.wave_table.specs.Wave.{quarterOf}
 use Rattle.player.specs.Bracket.{notAbove, neighbours, bracketOf}
 use Rattle.player.specs.declared.bracket.Bracket.{Bracket}

@@ -9,21 +9,21 @@ use lib.Dec.{T, eqb}
 use lib.Ieee.{Float, nan, binary32, eq, fits}
 use Rattle.wire.specs.Parse.{pick}
 use Rattle.float.specs.Range.{Within}
-use Rattle.player.specs.F32.{_⊗_, nearest}
+use Rattle.float.specs.F32.{_⊗_, nearest}
 use Rattle.player.specs.Lists.{Filled, mapTo, steps}
-use Rattle.player.specs.Wave.{sineOf}
+use Rattle.filters.specs.Wave.{sineOf}
 use Rattle.player.specs.Phase.{advanceOf}
 use Rattle.player.specs.Input.{cleaned}
-use Rattle.player.specs.Rng.{nextBipolar}
+use Rattle.filters.specs.Rng.{nextBipolar}
 use Rattle.player.specs.Voice.{phasesOk, keepsRules}
 use Rattle.player.specs.Sound.{sidesAt, blendCoeff, partialSum, noiseIn, movedPhases, movedMemories, movedRng, addNoiseSingle, addNoiseBlend, blendPower, sound, moved}
 use Rattle.player.specs.Block.{stateAt}
 use Rattle.player.specs.Columns.{Memories, Coeffs, Ticked, stateOfColumns}
 use Rattle.player.specs.Tuning.{added}
-use Rattle.player.specs.declared.filters.BiquadState.{BiquadState}
+use Rattle.filters.specs.declared.biquad.BiquadState.{BiquadState}
 use Rattle.player.specs.declared.fixed.Fixed.{Fixed}
-use Rattle.player.specs.declared.rng.Bipolar.{Bipolar}
-use Rattle.player.specs.declared.rng.Rng.{Rng}
+use Rattle.filters.specs.declared.rng.Bipolar.{Bipolar}
+use Rattle.filters.specs.declared.rng.Rng.{Rng}
 use Rattle.player.specs.declared.tuning.Tuning.{Tuning}
 use Rattle.player.specs.declared.voice.State.{State}
 use Rattle.player.specs.declared.voice.Voice.{Voice}

@@ -12,14 +12,14 @@ use lib.Dec.{T}
 use lib.Ieee.{Float, nan, binary32, fits, eq, ne}
 use lib.Ieee.Fits.{add-fits}
 use Rattle.wire.specs.Parse.{pick}
-use Rattle.player.specs.F32.{_⊕_, nearest}
+use Rattle.float.specs.F32.{_⊕_, nearest}
 use Rattle.player.specs.Lists.{Filled, FilledRows, steps}
-use Rattle.player.specs.Filters.{tickOf}
+use Rattle.filters.specs.Biquad.{tickOf}
 use Rattle.player.specs.Sound.{noState, noCoeffs}
 use Rattle.player.specs.Columns.{minusZero, stateOfColumns, coeffsOfColumns, Memories, Coeffs, Ticked}
-use Rattle.player.specs.declared.filters.BiquadCoeffs.{BiquadCoeffs}
-use Rattle.player.specs.declared.filters.BiquadState.{BiquadState}
-use Rattle.player.specs.declared.filters.Tick.{Tick}
+use Rattle.filters.specs.declared.biquad.BiquadCoeffs.{BiquadCoeffs}
+use Rattle.filters.specs.declared.biquad.BiquadState.{BiquadState}
+use Rattle.filters.specs.declared.biquad.Tick.{Tick}
 
 -- ---- a column that a loop fills
 -- the place that is written

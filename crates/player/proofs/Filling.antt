@@ -11,7 +11,7 @@ use lib.Seq.{getD-set-other, lt-length-set}
 use lib.Ieee.{Float, nan, fin, binary32, round, neg, eq, ne, fits}
 use Rattle.wire.specs.Parse.{pick}
 use Rattle.float.proofs.Identities.{add-minus-zero}
-use Rattle.player.specs.F32.{_⊕_, nearest}
+use Rattle.float.specs.F32.{_⊕_, nearest}
 use Rattle.player.specs.Lists.{Filled, mapTo}
 use Rattle.player.specs.Tuning.{added, heard}
 use Rattle.player.proofs.Loops.{mapTo-at}

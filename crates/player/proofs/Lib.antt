@@ -1,15 +1,5 @@
-pub mod Quarters
-pub mod Line
-pub mod Apart
-pub mod SineLaws
 pub mod Waves
-pub mod NoiseLaws
 pub mod PhaseLaws
-pub mod BandLaws
-pub mod BandAt
-pub mod Tests
-pub mod ZeroLaws
-pub mod RingLaws
 pub mod Loops
 pub mod ColumnLaws
 pub mod RangeLaws

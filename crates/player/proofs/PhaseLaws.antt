@@ -14,13 +14,13 @@ use Rattle.float.specs.Lerp.{lerp}
 use Rattle.float.proofs.Within.{value-plain, value-cross, add-within, mul-within, div-within, le→cross, lt→cross}
 use Rattle.float.proofs.Fraction.{fraction-value, widen}
 use Rattle.float.proofs.Bounds.{int-within, lerp-within, ratio-within}
-use Rattle.player.specs.F32.{_⊕_, _⊗_}
+use Rattle.float.specs.F32.{_⊕_, _⊗_}
 use Rattle.player.specs.Phase.{Phase, Step, advanceOf, inverseOf, partialFreq, stepOf}
-use Rattle.player.specs.Rate.{Rate}
+use Rattle.filters.specs.Rate.{Rate}
 use Rattle.player.specs.Share.{shareOf}
 
 -- the sum of a phase and a step
-sum-within : (ph inc : Float) → Phase ph → Step inc → Within 1048577 1 (ph ⊕ inc)
+pub sum-within : (ph inc : Float) → Phase ph → Step inc → Within 1048577 1 (ph ⊕ inc)
 unfolding round
 sum-within ph inc p i =
     add-within binary32 ph inc 1 1 1048576 1 1048577 1 (lit< tt) (lit< tt) (lit< tt) (refl, refl) (record { plain-is = p .plain-is; upper = le-of-lt (p .strict) }) i (lit≤ tt)

@@ -18,14 +18,14 @@ use Rattle.float.specs.Fraction.{fraction}
 use Rattle.float.proofs.Within.{Holds, on-plain, le→cross, lt→cross, cross→le, cross→lt, add-within, mul-within, sub-within, fits-holds}
 use Rattle.float.proofs.Bounds.{le-or-lt, up-to-self, round-neg, mul-neg}
 use Rattle.float.proofs.Fraction.{widen}
-use Rattle.player.specs.F32.{_⊕_, nearest}
+use Rattle.float.specs.F32.{_⊕_, nearest}
 use Rattle.player.specs.Phase.{Phase, Step, advanceOf, stepOf}
 use Rattle.player.specs.Lists.{mapTo}
 use Rattle.player.specs.Voice.{phaseOk, pitchOk, stretchOk, phasesOk}
 use Rattle.player.specs.Sound.{partialRow}
 use Rattle.player.specs.declared.bracket.Sides.{Sides}
 use Rattle.player.proofs.Loops.{both-true, every-at, mapTo-read}
-use Rattle.player.proofs.PhaseLaws.{sum-small, advance-phase, freq-within, stretch-within}
+use Rattle.player.proofs.PhaseLaws.{sum-within, advance-phase, freq-within, stretch-within}
 
 pub hold : (b : Bool) → b ≡ true → T b
 hold b e = subst T (sym e) tt
@@ -136,8 +136,11 @@ plain-phase p inc h i = let t = both-true (le (nearest 0 1) p) (lt p (nearest 1 
     go (inr z) = (fin false 0 (z .0), zero-phase (z .0), ap (λ (t : Float). t ⊕ inc) (z .1) ∙ minus-zero binary32 (z .0) inc (i .plain-is))
 
 -- LAW: the sum of a phase and a step
+pub sum-up-to : (p inc : Float) → phaseOk p ≡ true → Step inc → Within 1048577 1 (p ⊕ inc)
+sum-up-to p inc h i = let q = plain-phase p inc h i in subst (λ (z : Float). Within 1048577 1 z) (sym (q .2)) (sum-within (q .0) inc (q .1) i)
+
 pub sum-ok : (p inc : Float) → phaseOk p ≡ true → Step inc → Within 16777216 1 (p ⊕ inc)
-sum-ok p inc h i = let q = plain-phase p inc h i in subst (λ (z : Float). Within 16777216 1 z) (sym (q .2)) (sum-small (q .0) inc (q .1) i)
+sum-ok p inc h i = widen 1048577 16777216 (p ⊕ inc) (lit≤ tt) (sum-up-to p inc h i)
 
 -- LAW: a phase and a step of at most 31/32 sum to less than 2
 pub sum-under-two : (p inc : Float) → phaseOk p ≡ true → Step inc → le inc (nearest 31 32) ≡ true → T (lt (p ⊕ inc) (fin false 1 (pos 1)))

@@ -12,32 +12,32 @@ use Rattle.wire.specs.Parse.{pick}
 use Rattle.float.specs.Range.{Within}
 use Rattle.float.proofs.Within.{le→cross}
 use Rattle.float.proofs.Fraction.{not-lt}
-use Rattle.player.specs.F32.{_⊗_, nearest}
+use Rattle.float.specs.F32.{_⊗_, nearest}
 use Rattle.player.specs.Lists.{mapTo, upTo, steps, every}
-use Rattle.player.specs.Rate.{Rate}
+use Rattle.filters.specs.Rate.{Rate}
 use Rattle.player.specs.Phase.{advanceOf, inverseOf, partialFreq, stepOf}
 use Rattle.player.specs.Fade.{nyquistFade}
-use Rattle.player.specs.Filters.{tickOf}
-use Rattle.player.specs.Rng.{nextBipolar}
+use Rattle.filters.specs.Biquad.{tickOf}
+use Rattle.filters.specs.Rng.{nextBipolar}
 use Rattle.player.specs.Input.{inputAt, frequencyAt, frequencyOk, frequenciesOk, InputFits, cleaned}
 use Rattle.player.specs.Bracket.{SidesIn, between}
 use Rattle.player.specs.Voice.{phaseOk, pitchOk, stretchOk, phasesOk, countsOk, entriesOk, liveOk, pitchesAscend, bandsAscend, keepsRules}
 use Rattle.player.specs.Sound.{noCoeffs, noState, sidesAt, partialRow, noiseRow, movedPhases, addSingle, addBlend, blendCoeff, partialTerm, partialSum, noiseIn, movedRng, Mix, addNoiseSingle, addNoiseBlend, blendPower, noiseTerm, bandStep, mixed, mixAt, sound, movedMemories, moved}
 use Rattle.player.specs.Block.{stateAt, channelOut}
 use Rattle.player.specs.declared.bracket.Sides.{Sides}
-use Rattle.player.specs.declared.filters.BiquadState.{BiquadState}
-use Rattle.player.specs.declared.filters.Tick.{Tick}
+use Rattle.filters.specs.declared.biquad.BiquadState.{BiquadState}
+use Rattle.filters.specs.declared.biquad.Tick.{Tick}
 use Rattle.player.specs.declared.fixed.Fixed.{Fixed}
 use Rattle.player.specs.declared.input.Input.{Input}
 use Rattle.player.specs.declared.pitch.Pitch.{Pitch}
-use Rattle.player.specs.declared.rng.Rng.{Rng}
+use Rattle.filters.specs.declared.rng.Rng.{Rng}
 use Rattle.player.specs.declared.voice.State.{State}
 use Rattle.player.specs.declared.voice.Voice.{Voice}
 use Rattle.player.proofs.Loops.{both-true, every-at, at-every, mapTo-at, steps-again, steps-same, upTo-again, upTo-full, length-upTo, input-index}
 use Rattle.player.proofs.QuestionLaws.{kept, counts-are}
 use Rattle.player.proofs.PhaseLaws.{inverse-within}
 use Rattle.player.proofs.RangeLaws.{hold, advance-ok, phase-passes, step-small}
-use Rattle.player.proofs.Tests.{rate-is}
+use Rattle.filters.proofs.Tests.{rate-is}
 
 abbrev pub stateOf : List Float → List BiquadState → Rng → State
 stateOf ps ms r = record { phases = ps; memories = ms; rng = r }

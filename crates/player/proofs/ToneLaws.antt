@@ -10,9 +10,9 @@ use lib.Ieee.{Float, nan, inf, fin, binary32, eq, fits, le}
 use Rattle.wire.specs.Parse.{pick}
 use Rattle.float.specs.Range.{Within}
 use Rattle.float.proofs.Identities.{same-float}
-use Rattle.player.specs.F32.{_⊕_, _⊗_, nearest}
+use Rattle.float.specs.F32.{_⊕_, _⊗_, nearest}
 use Rattle.player.specs.Lists.{Filled, FilledRows, mapTo, steps, every}
-use Rattle.player.specs.Wave.{sineOf}
+use Rattle.filters.specs.Wave.{sineOf}
 use Rattle.player.specs.Phase.{AllPhases, AllSteps, Phase, Step, advanceOf, partialFreq, stepOf}
 use Rattle.player.specs.Fade.{nyquistFade}
 use Rattle.player.specs.Voice.{phaseOk, phasesOk}

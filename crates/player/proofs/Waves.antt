@@ -22,22 +22,26 @@ use Rattle.float.proofs.Ints.{abs-in-float}
 use Rattle.player.specs.Lists.{Filled}
 use Rattle.player.specs.Phase.{Phase, AllPhases}
 use Rattle.wave_table.specs.Wave.{quarterOf, waveOf, Waves}
-use Rattle.player.specs.Wave.{placeOf, cellOf, restOf, sineOf}
+use Rattle.filters.specs.Wave.{placeOf, cellOf, restOf, sineOf}
 use Rattle.player.specs.Sines.{cellFloat, indexOf, startOf, riseOf, lineAt, Cell, AllCells}
 use Rattle.wave_table.proofs.Alike.{rise-exact}
-use Rattle.player.proofs.SineLaws.{cell-lt}
+use Rattle.filters.proofs.SineLaws.{cell-lt}
 
 -- ---- the place of a phase, and its cell, whatever the phase's format
-pub place-small : (p : Float) → Phase p → Within 1024 1 (placeOf p)
+place-within : (p : Float) → Phase p → Within 1024 1 (placeOf p)
 unfolding round
-place-small p h =
+place-within p h =
     mul-within binary32 p (fin false 1 (pos 10)) 1 1 1024 1 1024 1 (lit< tt) (lit< tt) (lit< tt) (refl, refl) (below-within 1 1 p h) (record { plain-is = tt; upper = lit≤ tt }) (lit≤ tt)
+
+-- small enough for `floor`
+pub place-small : (p : Float) → Phase p → Within 1048577 1 (placeOf p)
+place-small p h = widen 1024 1048577 (placeOf p) (lit≤ tt) (place-within p h)
 
 cell-le : (p : Float) → Phase p → cellOf p ≤ 1024
 cell-le p h =
     let q = placeOf p in
-    le-trans (le-of-eq (whole-is 64 q (lit≤ tt) (widen 1024 16777216 q (lit≤ tt) (place-small p h))))
-    (div-le-of-le-mul (den q) (le-trans (le-of-eq (sym (mul-one (num q)))) (le-trans (place-small p h .upper) (le-of-eq (mul-comm 1024 (den q))))))
+    le-trans (le-of-eq (whole-is 64 q (lit≤ tt) (widen 1024 16777216 q (lit≤ tt) (place-within p h))))
+    (div-le-of-le-mul (den q) (le-trans (le-of-eq (sym (mul-one (num q)))) (le-trans (place-within p h .upper) (le-of-eq (mul-comm 1024 (den q))))))
 
 -- ---- a whole number up to 1024 as a float, and back
 module _ (n : ℕ) (h : n ≤ 1024) where

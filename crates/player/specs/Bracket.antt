@@ -6,7 +6,7 @@ use lib.ListN.{getD}
 use lib.Ieee.{Float, nan, le}
 use Rattle.wire.specs.Parse.{pick}
 use Rattle.float.specs.Lerp.{lerp}
-use Rattle.player.specs.F32.{nearest}
+use Rattle.float.specs.F32.{nearest}
 use Rattle.player.specs.Share.{shareOf}
 use Rattle.player.specs.declared.bracket.Bracket.{Bracket}
 use Rattle.player.specs.declared.bracket.Sides.{Sides}

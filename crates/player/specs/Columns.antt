@@ -7,11 +7,11 @@ use lib.IntN.{pos}
 use lib.ListN.{getD}
 use lib.Ieee.{Float, nan, fin, ne}
 use Rattle.wire.specs.Parse.{pick}
-use Rattle.player.specs.F32.{_⊗_, nearest}
-use Rattle.player.specs.Filters.{tickOf}
+use Rattle.float.specs.F32.{_⊗_, nearest}
+use Rattle.filters.specs.Biquad.{tickOf}
 use Rattle.player.specs.Sound.{noState, noCoeffs}
-use Rattle.player.specs.declared.filters.BiquadCoeffs.{BiquadCoeffs}
-use Rattle.player.specs.declared.filters.BiquadState.{BiquadState}
+use Rattle.filters.specs.declared.biquad.BiquadCoeffs.{BiquadCoeffs}
+use Rattle.filters.specs.declared.biquad.BiquadState.{BiquadState}
 
 -- each of the first n is one of 16 bands
 pub record LiveIn (live : List ℕ) (n : ℕ) : Type 0 where

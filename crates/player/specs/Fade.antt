@@ -1,7 +1,7 @@
 -- How much of a partial is heard as its frequency nears Nyquist: all of it below the guard band, none from Nyquist on, in between a straight line.
 use mathlib.Core.Bool.{cond}
 use lib.Ieee.{Float, le}
-use Rattle.player.specs.F32.{_⊖_, _⊗_, _⊘_, nearest}
+use Rattle.float.specs.F32.{_⊖_, _⊗_, _⊘_, nearest}
 
 -- the share of the range below Nyquist in which a partial fades
 abbrev pub guardFraction : Float

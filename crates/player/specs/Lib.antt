@@ -1,13 +1,7 @@
-pub mod F32
-pub mod Wave
 pub mod Sines
 pub mod Phase
 pub mod Share
-pub mod Rng
-pub mod Rate
 pub mod Fade
-pub mod Filters
-pub mod Compensation
 pub mod Lists
 pub mod Input
 pub mod Bracket
@@ -16,5 +10,4 @@ pub mod Sound
 pub mod Columns
 pub mod Block
 pub mod Play
-pub mod Band
 pub mod Tuning

@@ -5,12 +5,10 @@ use mathlib.Core.Bool.{false}
 use lib.ListN.{getD}
 use lib.IntN.{pos}
 use lib.Ieee.{Float, nan, fin, binary32, ofInt}
-use Rattle.float.specs.Range.{Within, Below}
+use Rattle.float.specs.Range.{Within}
 use Rattle.float.specs.Fraction.{fraction}
-use Rattle.player.specs.F32.{_⊕_, _⊗_, _⊘_}
-
-abbrev pub Phase : Float → Type 0
-Phase x = Below 1 1 x
+use Rattle.float.specs.F32.{_⊕_, _⊗_, _⊘_}
+pub use Rattle.filters.specs.Wave.{Phase}
 
 -- the first m of a list are phases
 pub record AllPhases (ps : List Float) (m : ℕ) : Type 0 where

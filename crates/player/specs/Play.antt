@@ -6,7 +6,7 @@ use lib.ListN.{length}
 use lib.Dec.{leb, eqb}
 use lib.Ieee.{Float}
 use Rattle.player.specs.Input.{Gains, inputOk, frequenciesOk}
-use Rattle.player.specs.Rng.{newRng}
+use Rattle.filters.specs.Rng.{newRng}
 use Rattle.player.specs.Voice.{keepsRules, withState, firstState, clearedMemories}
 use Rattle.player.specs.Block.{blockOut, blockEnd}
 use Rattle.player.specs.declared.input.Input.{Input}

@@ -6,9 +6,9 @@ use lib.Dec.{T}
 use lib.IntN.{pos, negsuc, _-ℤ_}
 use lib.ListN.{getD}
 use lib.Ieee.{Float, nan, fin, binary32, ofInt, toUnsigned, inUnsigned}
-use Rattle.player.specs.F32.{_⊕_, _⊗_}
+use Rattle.float.specs.F32.{_⊕_, _⊗_}
 use Rattle.wave_table.specs.Wave.{waveOf}
-use Rattle.player.specs.Wave.{cellOf}
+use Rattle.filters.specs.Wave.{cellOf}
 
 -- k as a float, and a float back as k
 abbrev pub cellFloat : Float → Float

@@ -8,18 +8,18 @@ use lib.Ieee.{Float, nan, ne}
 use Rattle.wire.specs.Parse.{pick}
 use Rattle.float.specs.Lerp.{lerp}
 use Rattle.float.specs.Sqrt.{sqrt}
-use Rattle.player.specs.F32.{_⊕_, _⊗_, nearest}
+use Rattle.float.specs.F32.{_⊕_, _⊗_, nearest}
 use Rattle.player.specs.Lists.{mapTo, steps}
-use Rattle.player.specs.Wave.{sineOf}
+use Rattle.filters.specs.Wave.{sineOf}
 use Rattle.player.specs.Phase.{advanceOf, inverseOf, partialFreq, stepOf}
 use Rattle.player.specs.Fade.{nyquistFade}
-use Rattle.player.specs.Rng.{nextBipolar}
-use Rattle.player.specs.Filters.{tickOf, cleared}
+use Rattle.filters.specs.Rng.{nextBipolar}
+use Rattle.filters.specs.Biquad.{tickOf, cleared}
 use Rattle.player.specs.Bracket.{bracketOf, sidesOf, between}
 use Rattle.player.specs.declared.bracket.Sides.{Sides}
-use Rattle.player.specs.declared.filters.BiquadCoeffs.{BiquadCoeffs}
-use Rattle.player.specs.declared.filters.BiquadState.{BiquadState}
-use Rattle.player.specs.declared.rng.Rng.{Rng}
+use Rattle.filters.specs.declared.biquad.BiquadCoeffs.{BiquadCoeffs}
+use Rattle.filters.specs.declared.biquad.BiquadState.{BiquadState}
+use Rattle.filters.specs.declared.rng.Rng.{Rng}
 use Rattle.player.specs.declared.voice.State.{State}
 use Rattle.player.specs.declared.voice.Voice.{Voice}
 

@@ -7,7 +7,7 @@ use lib.ListN.{getD}
 use lib.Dec.{eqb}
 use lib.Ieee.{Float, nan, ne, le, neg}
 use Rattle.wire.specs.Parse.{pick}
-use Rattle.player.specs.F32.{_⊕_, nearest}
+use Rattle.float.specs.F32.{_⊕_, nearest}
 use Rattle.player.specs.Lists.{Filled, FilledRows, every}
 use Rattle.player.specs.Phase.{AllSteps, partialFreq, stepOf}
 use Rattle.player.specs.Fade.{nyquistFade}

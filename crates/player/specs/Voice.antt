@@ -5,11 +5,12 @@ use mathlib.Core.Bool.{Bool, true, false, not, _&&_}
 use lib.ListN.{getD, replicate}
 use lib.Dec.{leb, ltb, eqb}
 use lib.Ieee.{Float, nan, le, lt}
-use Rattle.player.specs.F32.{nearest}
+use Rattle.float.specs.F32.{nearest}
 use Rattle.player.specs.Lists.{every}
-use Rattle.player.specs.Filters.{cleared}
-use Rattle.player.specs.Rng.{newRng, defaultSeed}
-use Rattle.player.specs.declared.filters.BiquadState.{BiquadState}
+pub use Rattle.filters.specs.Rate.{rateOk}
+use Rattle.filters.specs.Biquad.{cleared}
+use Rattle.filters.specs.Rng.{newRng, defaultSeed}
+use Rattle.filters.specs.declared.biquad.BiquadState.{BiquadState}
 use Rattle.player.specs.declared.voice.State.{State}
 use Rattle.player.specs.declared.voice.Voice.{Voice}
 
@@ -17,15 +18,12 @@ use Rattle.player.specs.declared.voice.Voice.{Voice}
 abbrev pub phaseOk : Float → Bool
 phaseOk p = le (nearest 0 1) p && lt p (nearest 1 1)
 
--- a pitch is finite, above 0 and at most 20,000; a stretch is 0 to 4; a rate 8,000 to 192,000 (a NaN fails every test)
+-- a pitch is finite, above 0 and at most 20,000; a stretch is 0 to 4 (a NaN fails every test)
 abbrev pub pitchOk : Float → Bool
 pitchOk f = lt (nearest 0 1) f && le f (nearest 20000 1)
 
 abbrev pub stretchOk : Float → Bool
 stretchOk s = le (nearest 0 1) s && le s (nearest 4 1)
-
-abbrev pub rateOk : Float → Bool
-rateOk r = le (nearest 8000 1) r && le r (nearest 192000 1)
 
 -- ascending, equal ones allowed: of the first n
 abbrev pub pitchesAscend : List Float → ℕ → Bool

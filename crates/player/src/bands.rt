@@ -5,8 +5,8 @@ ghost use lib.ListN.{length, getD, set};
 ghost use lib.Ieee.{nan};
 ghost use Rattle.player.specs.Lists.{Filled, steps};
 ghost use Rattle.player.specs.Columns.{LiveIn, stateOfColumns, Memories, Coeffs, Ticked};
-use crate::filters::BiquadCoeffs;
-use crate::filters::BiquadState;
+use filters::BiquadCoeffs;
+use filters::BiquadState;
 
 // The memories of the live bands.
 pub fn gather_memories(

@@ -3,7 +3,7 @@ ghost use mathlib.Core.Path.{_≡_};
 ghost use mathlib.Core.Bool.{true};
 ghost use Prim.Native.Nat.{_≤_};
 ghost use lib.ListN.{length};
-ghost use Rattle.player.specs.F32.{nearest};
+ghost use Rattle.float.specs.F32.{nearest};
 ghost use Rattle.player.specs.Lists.{upTo};
 ghost use Rattle.player.specs.Input.{InputFits, frequenciesOk, frequencyAt, gains, gainsAt};
 ghost use Rattle.player.specs.Voice.{keepsRules};

@@ -4,7 +4,7 @@ ghost use mathlib.Core.Path.{_≡_};
 ghost use Prim.Native.Nat.{_≤_};
 ghost use lib.ListN.{getD};
 ghost use lib.Ieee.{nan, le};
-ghost use Rattle.player.specs.F32.{_⊕_};
+ghost use Rattle.float.specs.F32.{_⊕_};
 ghost use Rattle.player.specs.Lists.{Filled, every, steps};
 use crate::rules::both;
 

@@ -1,6 +1,6 @@
 // What stays the same through a channel: which partials sound, and by what rate.
 ghost use mathlib.Core.Path.{_≡_};
-ghost use Rattle.player.specs.F32.{_⊗_, nearest};
+ghost use Rattle.float.specs.F32.{_⊗_, nearest};
 ghost use Rattle.player.specs.Phase.{inverseOf};
 
 pub struct Fixed {

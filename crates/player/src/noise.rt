@@ -6,17 +6,17 @@ ghost use lib.Dec.{eqb};
 ghost use lib.Ieee.{nan};
 ghost use Rattle.wire.specs.Parse.{pick};
 ghost use Rattle.float.specs.Sqrt.{sqrt};
-ghost use Rattle.player.specs.F32.{_⊕_, _⊗_};
+ghost use Rattle.float.specs.F32.{_⊕_, _⊗_};
 ghost use Rattle.player.specs.Lists.{Filled, FilledRows, steps};
 ghost use Rattle.player.specs.Bracket.{SidesIn};
 ghost use Rattle.player.specs.Columns.{LiveIn, singleTerm, blendTerm};
-ghost use Rattle.player.specs.Rng.{nextBipolar};
+ghost use Rattle.filters.specs.Rng.{nextBipolar};
 ghost use Rattle.player.specs.Sound.{addNoiseSingle, addNoiseBlend, blendPower, noiseRow, noiseIn};
 use crate::bracket::Sides;
 use crate::columns::fill;
 use crate::columns::sum_of;
-use crate::rng::Bipolar;
-use crate::rng::Rng;
+use filters::Bipolar;
+use filters::Rng;
 
 const UNIT_VARIANCE: f32 = 1.7320508;
 

@@ -4,7 +4,7 @@ ghost use mathlib.Core.Bool.{true};
 ghost use Prim.Native.Nat.{_≤_};
 ghost use Rattle.player.specs.Phase.{Step, advanceOf, partialFreq};
 ghost use Rattle.player.specs.Voice.{phaseOk};
-use crate::whole::whole_part;
+use crate::whole::floor;
 
 // Most steps are small: the whole part is 0 or 1.
 pub fn advance(ph: f32, inc: f32) -> f32
@@ -18,7 +18,7 @@ pub fn advance(ph: f32, inc: f32) -> f32
     if x < 2.0 {
         return x - 1.0;
     }
-    x - (whole_part(x) as f32)
+    x - floor(x)
 }
 
 // The frequency of partial m, counted from 1.

@@ -4,7 +4,7 @@ ghost use mathlib.Core.Bool.{true};
 ghost use Prim.Native.Nat.{_≤_};
 ghost use lib.ListN.{getD};
 ghost use lib.Ieee.{nan, le};
-ghost use Rattle.player.specs.F32.{nearest};
+ghost use Rattle.float.specs.F32.{nearest};
 ghost use Rattle.player.specs.Lists.{every, mapTo};
 ghost use Rattle.player.specs.Phase.{AllSteps, advanceOf};
 ghost use Rattle.player.specs.Voice.{phasesOk};

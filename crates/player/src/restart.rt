@@ -3,11 +3,11 @@ ghost use mathlib.Core.Path.{_≡_};
 ghost use Rattle.player.specs.Play.{outcomeOf, resetOf, reseedOf};
 use crate::answer::PlayAnswer;
 use crate::answer::Played;
-use crate::filters::BiquadState;
-use crate::rng::Rng;
 use crate::rules::keeps_rules;
 use crate::voice::State;
 use crate::voice::Voice;
+use filters::BiquadState;
+use filters::Rng;
 
 // The state that a fresh voice has.
 pub fn reset(mut voice: Voice) -> Played

@@ -1,7 +1,7 @@
 // A voice: everything that a tone is made of, by value. It crosses to C as it is.
-use crate::filters::BiquadCoeffs;
-use crate::filters::BiquadState;
-use crate::rng::Rng;
+use filters::BiquadCoeffs;
+use filters::BiquadState;
+use filters::Rng;
 
 // The running state: phases, two memories for each band, and the noise number.
 #[repr(C)]

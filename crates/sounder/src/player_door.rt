@@ -2,7 +2,7 @@
 ghost use mathlib.Core.Path.{_≡_};
 ghost use lib.ListN.{length};
 ghost use Rattle.player.specs.Input.{gains};
-ghost use Rattle.player.specs.Compensation.{noisePowerGain};
+ghost use Rattle.filters.specs.Compensation.{noisePowerGain};
 ghost use Rattle.making.specs.Making.{makeOf};
 ghost use Rattle.making.specs.MakeAnswer.{makeRefusal};
 ghost use Rattle.player.specs.Play.{playNumber, played, playedOut, resetOf, reseedOf};
@@ -11,14 +11,14 @@ ghost use Rattle.sounder.specs.Player.{madeAnswer, playedAnswer, inputOf
 use crate::answer::Answer;
 use crate::answer::refused;
 use crate::kind::kind_of;
+use filters::BiquadCoeffs;
+use filters::NoisePower;
+use filters::biquad_noise_power_gain;
 use making::MakeAnswer;
 use making::make;
-use player::BiquadCoeffs;
 use player::Input;
-use player::NoisePower;
 use player::PlayAnswer;
 use player::Voice;
-use player::biquad_noise_power_gain;
 use player::play;
 use player::reseed;
 use player::reset;

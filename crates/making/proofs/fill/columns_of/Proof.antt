@@ -8,7 +8,7 @@ use lib.Ieee.{ofBits, round}
 use mathlib.Core.List.{map}
 use Rattle.table.specs.Table.{PitchEntry}
 use Rattle.table.specs.View.{entryAt}
-use Rattle.player.specs.F32.{nearest}
+use Rattle.float.specs.F32.{nearest}
 use Rattle.player.specs.Lists.{padded}
 use Rattle.making.specs.Making.{f32, gainOf, mainlobeKey, noiseGainKey}
 use Rattle.making.specs.Views.{noView}

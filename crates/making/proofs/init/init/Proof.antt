@@ -5,12 +5,12 @@ use mathlib.Core.List.{map}
 use lib.ListN.{length, take}
 use lib.Seq.{take-all}
 use lib.Ieee.{Float, nan, ofBits, round}
-use Rattle.player.specs.F32.{nearest}
+use Rattle.float.specs.F32.{nearest}
 use Rattle.player.specs.Lists.{padded}
-use Rattle.player.specs.Filters.{noiseBand}
-use Rattle.player.specs.Band.{zeroCoeffs, bandCompensation}
-use Rattle.player.specs.declared.band.Band.{Band}
-use Rattle.player.proofs.BandAt.{band-coeffs, band-compensation}
+use Rattle.filters.specs.Biquad.{noiseBand}
+use Rattle.filters.specs.Band.{zeroCoeffs, bandCompensation}
+use Rattle.filters.specs.declared.band.Band.{Band}
+use Rattle.filters.proofs.BandAt.{band-coeffs, band-compensation}
 use Rattle.making.proofs.MakeLists.{pad-again}
 use borrow.Author.Needs.{needs}
 use Rattle.making.proofs.init.init.Statement.{statement}
@@ -18,7 +18,7 @@ use Rattle.making.proofs.init.init.Tie as tie
 use Rattle.making.proofs.init.init.Reads as reads
 use Rattle.making.proofs.init.init.Lts as lts
 use Rattle.making.proofs.init.zero_coeffs.Reads as zero-coeffs-reads
-use Rattle.player.proofs.init_band.Reads as init-band-reads
+use Rattle.filters.proofs.init_band.Reads as init-band-reads
 
 abbrev Inv-loop : tie.InvT-loop
 Inv-loop sample-rate centres coeffs₀ compensation₀ i₀ coeffs compensation i = (i ≤ length centres) × (coeffs ≡ padded 16 zeroCoeffs (map (λ c. noiseBand c sample-rate) (take i centres))) × (compensation ≡ padded 16 (nearest 0 1) (map (λ c. bandCompensation c sample-rate) (take i centres)))

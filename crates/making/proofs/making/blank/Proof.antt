@@ -6,7 +6,7 @@ use Rattle.making.proofs.making.blank.Statement.{statement}
 use Rattle.making.proofs.making.blank.Tie as tie
 use Rattle.making.proofs.making.blank.Reads as reads
 use Rattle.making.proofs.making.blank.Lts as lts
-use Rattle.player.proofs.filters.BiquadState.new.Reads as new-reads
+use Rattle.filters.proofs.biquad.BiquadState.new.Reads as new-reads
 use Rattle.making.proofs.init.zero_coeffs.Reads as zero-coeffs-reads
 
 -- src/making.rt:47:9

@@ -5,8 +5,8 @@ use Rattle.making.proofs.making.first_state.Statement.{statement}
 use Rattle.making.proofs.making.first_state.Tie as tie
 use Rattle.making.proofs.making.first_state.Reads as reads
 use Rattle.making.proofs.making.first_state.Lts as lts
-use Rattle.player.proofs.filters.BiquadState.new.Reads as new-reads
-use Rattle.player.proofs.rng.Rng.default.Reads as default-reads
+use Rattle.filters.proofs.biquad.BiquadState.new.Reads as new-reads
+use Rattle.filters.proofs.rng.Rng.default.Reads as default-reads
 
 -- src/making.rt:78:9
 new-requires : tie.Need-new-requires

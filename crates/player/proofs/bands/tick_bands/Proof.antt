@@ -3,9 +3,9 @@ use mathlib.Core.Path.{_≡_, ap}
 use Prim.Native.Nat.{_-_, _≤_}
 use native.Mathlib.Omega.{arith}
 use lib.ListN.{length, length-set}
-use Rattle.player.specs.Filters.{tickOf}
+use Rattle.filters.specs.Biquad.{tickOf}
 use Rattle.player.specs.Columns.{Ticked, stateOfColumns, coeffsOfColumns}
-use Rattle.player.specs.declared.filters.BiquadState.{BiquadState}
+use Rattle.filters.specs.declared.biquad.BiquadState.{BiquadState}
 use Rattle.player.proofs.ColumnLaws.{Kept, kept-all, kept-again, state-kept, ticked-again, ticked-full}
 use borrow.Author.Needs.{needs}
 use Rattle.player.proofs.bands.tick_bands.Statement.{statement}

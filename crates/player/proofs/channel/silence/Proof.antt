@@ -5,7 +5,7 @@ use Prim.Native.Nat.{_-_, _≤_}
 use native.Mathlib.Omega.{arith}
 use lib.ListN.{length, drop, length-set}
 use lib.Ieee.{ofBits, round}
-use Rattle.player.specs.F32.{nearest}
+use Rattle.float.specs.F32.{nearest}
 use Rattle.player.specs.Lists.{upTo}
 use Rattle.player.proofs.Loops.{upTo-again, upTo-full}
 use borrow.Author.Needs.{needs}

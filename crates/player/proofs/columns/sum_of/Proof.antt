@@ -4,7 +4,7 @@ use Prim.Native.Nat.{_-_, _≤_}
 use native.Mathlib.Omega.{arith}
 use lib.ListN.{getD}
 use lib.Ieee.{nan}
-use Rattle.player.specs.F32.{_⊕_}
+use Rattle.float.specs.F32.{_⊕_}
 use Rattle.player.specs.Lists.{steps}
 use Rattle.player.proofs.Loops.{steps-again, steps-full}
 use borrow.Author.Needs.{needs}

@@ -7,7 +7,7 @@ use Rattle.player.specs.Lists.{Filled}
 use mathlib.Core.Logic.{⊎-elim}
 use lib.Seq.{set-set, lt-length-set}
 use lib.Ieee.{Float, nan, ofBits, neg, round}
-use Rattle.player.specs.F32.{_⊗_}
+use Rattle.float.specs.F32.{_⊗_}
 use Rattle.player.specs.Columns.{minusZero, blendTerm}
 use Rattle.player.proofs.ColumnLaws.{filled-none, filled-again, filled-full, Kept, kept-all, kept-again, silent, heard}
 use borrow.Author.Needs.{needs}

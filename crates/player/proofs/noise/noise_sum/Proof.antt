@@ -3,7 +3,7 @@ use mathlib.Core.Path.{sym, ap, subst, _∙_}
 use lib.Dec.{T}
 use lib.Ieee.{Float}
 use borrow.Author.Tests.{eq-eqb, ne-eqb}
-use Rattle.player.specs.F32.{_⊕_}
+use Rattle.float.specs.F32.{_⊕_}
 use Rattle.player.proofs.ColumnLaws.{sum-is}
 use Rattle.player.proofs.BandColumns.{single-adds, stored-adds}
 use borrow.Author.Needs.{needs}

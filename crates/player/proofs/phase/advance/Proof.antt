@@ -1,15 +1,12 @@
 -- `advance` meets its contract. A test gives an order of floats with the literal by its bit pattern, which `unfolding ofBits` computes.
 use mathlib.Core.Path.{_≡_, sym, ap, subst}
 use mathlib.Core.Bool.{Bool, true}
-use Prim.Native.Nat.{ℕ}
 use lib.Dec.{T}
-use lib.IntN.{pos}
-use lib.Ieee.{Float, binary32, add, sub, ofInt, ofBits}
+use lib.Ieee.{Float, binary32, add, sub, ofBits}
 use lib.Ieee.Fits.{add-fits}
 use Rattle.float.specs.Range.{Within}
 use Rattle.float.proofs.Fraction.{fraction-below, fraction-over, not-lt, one}
-use Rattle.float.proofs.Ints.{abs-in-float}
-use Rattle.player.proofs.RangeLaws.{sum-ok}
+use Rattle.player.proofs.RangeLaws.{sum-up-to, sum-ok}
 use Rattle.player.proofs.phase.advance.Statement.{statement}
 use Rattle.player.proofs.phase.advance.Tie as tie
 
@@ -34,17 +31,12 @@ returns-2 c =
     let s = c .before .before in
     sym (fraction-over (x-of s) (small s) (not-lt (x-of s) one (small s .plain-is) tt (c .before .if1 .left)) (holds _ (c .if2 .taken)))
 
-whole-part-requires : tie.Need-whole-part-requires
-whole-part-requires c κs = small (c .before .before)
-
-int-to-float-result : tie.Need-int-to-float-result
-int-to-float-result c = abs-in-float (pos (c .before .whole-part .result)) (c .before .whole-part .ensures .1)
+floor-requires : tie.Need-floor-requires
+floor-requires c κs = let s = c .before .before in sum-up-to (s .args .ph) (s .args .inc) (s .pre .0) (s .pre .1)
 
 returns-3 : tie.Need-returns-3
-returns-3 c =
-    let s = c .before .before .before .before in
-    ap (λ (n : ℕ). sub binary32 (x-of s) (ofInt binary32 (pos n))) (c .before .whole-part .ensures .0)
+returns-3 c = ap (λ (y : Float). sub binary32 (x-of (c .before .before .before)) y) (c .floor .ensures)
 
 pub advance-spec : {M : Type 1} → statement M
 advance-spec =
-    tie.close (tie.spec returns returns-2 whole-part-requires int-to-float-result returns-3)
+    tie.close (tie.spec returns returns-2 floor-requires returns-3)

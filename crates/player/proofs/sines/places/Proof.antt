@@ -8,7 +8,7 @@ use lib.ListN.{length, getD, length-set}
 use lib.Ieee.{Float, nan, binary32, ofBits, fits, sub}
 use Rattle.player.specs.Lists.{Filled}
 use Rattle.player.specs.Phase.{Phase}
-use Rattle.player.specs.Wave.{placeOf, restOf}
+use Rattle.filters.specs.Wave.{placeOf, restOf}
 use Rattle.player.specs.Sines.{cellFloat, Cell, AllCells}
 use Rattle.player.proofs.Waves.{place-small, phase-cell, cells-none, cells-more, cells-full}
 use Rattle.player.proofs.ColumnLaws.{filled-none, filled-again, filled-full}

@@ -5,7 +5,7 @@ use mathlib.Core.Bool.{false}
 use lib.Ieee.{Float, nan, binary32, ofBits, round}
 use lib.Ieee.Fits.{round-fits}
 use borrow.Author.Tests.{eq-eqb, ne-eqb}
-use Rattle.player.specs.F32.{_⊕_, _⊗_, nearest}
+use Rattle.float.specs.F32.{_⊕_, _⊗_, nearest}
 use Rattle.player.specs.Tuning.{added}
 use Rattle.player.proofs.ColumnLaws.{sum-is}
 use Rattle.player.proofs.Filling.{add-heard}

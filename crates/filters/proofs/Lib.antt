@@ -1,0 +1,10 @@
+pub mod Quarters
+pub mod Line
+pub mod Apart
+pub mod SineLaws
+pub mod NoiseLaws
+pub mod BandLaws
+pub mod BandAt
+pub mod Tests
+pub mod ZeroLaws
+pub mod RingLaws

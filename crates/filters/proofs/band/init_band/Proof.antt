@@ -1,0 +1,43 @@
+use mathlib.Core.Path.{_≡_, refl, sym, subst}
+use mathlib.Core.Bool.{Bool, true}
+use lib.Dec.{T}
+use lib.Ieee.{ofBits, round}
+use Rattle.filters.specs.Band.{bandAt}
+use Rattle.filters.proofs.Tests.{rate-is}
+use borrow.Author.Needs.{needs}
+use Rattle.filters.proofs.band.init_band.Statement.{statement}
+use Rattle.filters.proofs.band.init_band.Tie as tie
+use Rattle.filters.proofs.band.init_band.Reads as reads
+use Rattle.filters.proofs.band.init_band.Lts as lts
+use Rattle.filters.proofs.band.band_of.Reads as band-of-reads
+
+-- src/band.rt:47:13
+band-of-requires : tie.Need-band-of-requires
+unfolding ofBits round
+band-of-requires c κs =
+    let b1 = c .before in
+    rate-is _ (subst T (sym (b1 .if1 .taken)) tt) (subst T (sym (c .if2 .taken)) tt)
+
+-- src/band.rt:47:13
+returns : tie.Need-returns
+unfolding bandAt ofBits round
+returns c =
+    let b1 = c .before in
+    let b2 = b1 .before in
+    rw (b2 .if1 .taken, b1 .if2 .taken) (c .band-of .ensures)
+
+-- src/band.rt:42:1
+returns-2 : tie.Need-returns-2
+unfolding bandAt ofBits round
+returns-2 c =
+    let b1 = c .before in
+    rw (b1 .if1 .taken, c .if2 .left) refl
+
+-- src/band.rt:42:1
+returns-3 : tie.Need-returns-3
+unfolding bandAt ofBits round
+returns-3 c =
+    rw (c .if1 .left) refl
+
+pub init-band-spec : {M : Type 1} → statement M
+init-band-spec = tie.close (tie.spec band-of-requires returns returns-2 returns-3)

@@ -1,0 +1,6 @@
+pub mod Wave
+pub mod Rng
+pub mod Rate
+pub mod Biquad
+pub mod Compensation
+pub mod Band

@@ -1,0 +1,16 @@
+-- A sample rate that a voice can have.
+use Prim.Native.Nat.{_*_, _≤_}
+use mathlib.Core.Bool.{Bool, _&&_}
+use lib.Ieee.{Float, le}
+use lib.Ieee.Positive.{num, den}
+use Rattle.float.specs.Range.{Within}
+use Rattle.float.specs.F32.{nearest}
+
+-- 8,000 to 192,000 (a NaN fails both tests)
+abbrev pub rateOk : Float → Bool
+rateOk r = le (nearest 8000 1) r && le r (nearest 192000 1)
+
+-- the same as a fact: finite, from 8,000 to 192,000
+pub record Rate (x : Float) : Type 0 where
+  pub lower : 8000 * den x ≤ num x
+  pub upper : Within 192000 1 x
