@@ -4,7 +4,7 @@
     tools/look.py TABLE ..     (in the folder of the tables)
 
 Decimals come from whole fractions, rounded to six places with ties to even. It knows the refusals of the bundled tables only: version 2,
-and entries whose values are out of range.
+more than 16 entries, and entries whose values are out of range.
 """
 import math
 import struct
@@ -54,14 +54,20 @@ def look(path):
     entries = table(b)
     n = struct.unpack_from('<I', b, 6)[0]
     say(b'accepted: "' + name(b[10:10 + n]) + f'", {len(entries)} entries, {end_of(b)} bytes used of {len(b)}\n'.encode())
-    for i, e in enumerate(entries[:16]):
+    for i, e in enumerate(entries):
         gain = lambda k: decimal(e[k]) if e[k + '_given'] else 'not given'
         say(f"  entry {i}: pitch {decimal(e['pitch'])}, stretch {decimal(e['stretch'])}, partials {e['m']}, channels {e['k']}, "
             f"noise bands {e['j']}, mainlobe_gain {gain('main')}, noise_gain {gain('noise')}\n")
     say('  noise band span: 80.000000 to 12000.000000 Hz\n')
     first_bad = next((i for i, e in enumerate(entries) if bad(e)), None)
-    for single in list(range(max(e['k'] for e in entries))) + [None]:
+    k = max(e['k'] for e in entries)
+    for single in list(range(min(k, 16))) + [None]:
+        if single is None and k > 16:
+            say(f'  and {k - 16} channels more, which were not tried\n')
         say('  a blend: ' if single is None else f'  a single voice of channel {single}: ')
+        if len(entries) > 16:
+            say('refusal 8: the table has more than 16 entries, 32 partials or 16 noise bands\n')
+            continue
         if first_bad is not None:
             say(f'refusal 9: entry {first_bad} has a pitch, stretch, coefficient or gain that is no number or out of range\n')
             continue

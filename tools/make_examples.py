@@ -115,10 +115,23 @@ def odd():
     return table('odd\n\\ Gr\u00fcn', [entry(p, -1.5, [], [[]], 0, [('noise_gain', p)]) for p in pitches])
 
 
+def many():
+    """More entries than a voice holds, the most channels in one of the last of them."""
+    return table('many', [entry(100.0 * (i + 1), 1.0, [], [[]] * (5 if i == 17 else 1), 0, []) for i in range(20)])
+
+
+def channels():
+    """The largest channel count: an entry without partials and bands has no coefficients, whatever its count is."""
+    one = entry(440.0, 1.0, [], [], 0, [])
+    return table('channels', [one[:12] + struct.pack('<I', 0xFFFFFFFF) + one[16:]])
+
+
 def files():
     run = '../crates/inspect/data/'
     return {
         run + 'green-man.msct': green_man(),
+        run + 'many.msct': many(),
+        run + 'channels.msct': channels(),
         run + 'odd.msct': odd(),
         run + 'version-2.msct': b'MSCT' + struct.pack('<H', 2),
         '../crates/tone/data/green-man.msct': green_man(),

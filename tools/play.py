@@ -80,7 +80,8 @@ def table(b):
             key = b[at:at + n]
             at += n
             meta.setdefault(key, take('f'))
-        rows = [coeffs[c * (m + j):(c + 1) * (m + j)] for c in range(k)]
+        # rows without columns may be up to 2^32 - 1 of them; no voice has more than 16
+        rows = [coeffs[c * (m + j):(c + 1) * (m + j)] for c in range(k if m + j else min(k, 16))]
         entries.append(dict(pitch=pitch, stretch=stretch, m=m, k=k, j=j, rows=rows, main=meta.get(b'mainlobe_gain', 1.0),
                             noise=meta.get(b'noise_gain', 1.0), main_given=b'mainlobe_gain' in meta, noise_given=b'noise_gain' in meta))
     return entries

@@ -1,9 +1,12 @@
 // The entries of a table in words.
 use console::say;
 use table::Found;
+use table::entry::EntryRead;
 use table::entry::EntryView;
+use table::entry::entry_at;
 use table::entry::metadata_value;
-use table::lookup::EntryFound;
+use table::start::entries_start;
+use wire::cursor::Cursor;
 
 // A metadata value, or what stands where it is missing.
 fn metadata(image: &[u8], v: EntryView, what: &[u8], key: &[u8]) {
@@ -32,23 +35,29 @@ fn one(image: &[u8], i: usize, v: EntryView) {
     say::text(1, b"\n");
 }
 
-fn nth(image: &[u8], i: usize) {
-    match table::lookup::entry(image, i) {
-        EntryFound::Entry(v) => one(image, i, v),
-        EntryFound::Nothing => say::text(1, b"  no such entry\n"),
-    }
+fn larger(a: u32, b: u32) -> u32 {
+    if a < b { b } else { a }
 }
 
-// The first 16 entries: no voice has more.
-pub fn all(image: &[u8], count: usize) {
+// Says every entry of an accepted image, and answers the largest channel count of them. An entry is looked for where the one before it
+// ends, so that the image is gone through once, however many entries it has.
+pub fn all(image: &[u8]) -> u32 {
+    let start = entries_start(image);
+    let mut c = Cursor { at: start.at };
+    let mut k: u32 = 0;
     let mut i: usize = 0;
-    while i < count {
-        if i < 16 {
-            nth(image, i);
-        }
-        if i == 16 {
-            say::text(1, b"  and more\n");
+    while i < start.count {
+        match entry_at(image, c, i) {
+            EntryRead::Entry(v) => {
+                one(image, i, v);
+                k = larger(k, v.k_channels);
+                c = Cursor { at: v.end };
+            }
+            EntryRead::Refused(_) => {
+                return k;
+            }
         }
         i += 1;
     }
+    k
 }

@@ -47,8 +47,8 @@ fn describe(image: &[u8], given: bool, centres: &[f32]) {
     say::text(1, b" bytes used of ");
     say::number(1, image.len() as u64);
     say::text(1, b"\n");
-    entry::all(image, read.first);
-    voices::all(image, given, centres);
+    let channels = entry::all(image);
+    voices::all(image, channels, given, centres);
 }
 
 // Reads the file that an argument names.

@@ -3,7 +3,6 @@ use console::say;
 use console::words;
 use sounder::player_door::sounder_make;
 use sounder::table_door::sounder_desk;
-use table::lookup::EntryFound;
 
 // The kind of a voice: 0 is a single one of the channel, 1 a blend.
 fn say_kind(kind: u32, channel: u32) {
@@ -58,28 +57,6 @@ fn voice(image: &[u8], kind: u32, channel: u32, given: bool, centres: &[f32]) {
     }
 }
 
-fn larger(a: u32, b: u32) -> u32 {
-    if a < b { b } else { a }
-}
-
-fn channels_of(image: &[u8], i: usize) -> u32 {
-    match table::lookup::entry(image, i) {
-        EntryFound::Entry(v) => v.k_channels,
-        EntryFound::Nothing => 0,
-    }
-}
-
-// The largest channel count of the first 16 entries.
-fn channels(image: &[u8]) -> u32 {
-    let mut k: u32 = 0;
-    let mut i: usize = 0;
-    while i < 16 {
-        k = larger(k, channels_of(image, i));
-        i += 1;
-    }
-    k
-}
-
 // The noise bands' span, of the table's first entry or the default.
 fn span(image: &[u8]) {
     let desk = sounder_desk(1, 0, image);
@@ -90,19 +67,24 @@ fn span(image: &[u8]) {
     say::text(1, b" Hz\n");
 }
 
-// Each channel up to 16 of them, then the blend.
-pub fn all(image: &[u8], given: bool, centres: &[f32]) {
+fn least(a: u32, b: u32) -> u32 {
+    if a < b { a } else { b }
+}
+
+// The first 16 of k channels, then the blend. A count of channels may be anything below 2^32, since an entry without partials and bands
+// has no coefficients whatever its count is; so the others are only counted.
+pub fn all(image: &[u8], k: u32, given: bool, centres: &[f32]) {
     span(image);
-    let k = channels(image);
+    let tried = least(k, 16);
     let mut i: u32 = 0;
-    while i < k {
-        if i < 16 {
-            voice(image, 0, i, given, centres);
-        }
-        if i == 16 {
-            say::text(1, b"  and more channels\n");
-        }
+    while i < tried {
+        voice(image, 0, i, given, centres);
         i += 1;
+    }
+    if 16 < k {
+        say::text(1, b"  and ");
+        say::number(1, (k - 16) as u64);
+        say::text(1, b" channels more, which were not tried\n");
     }
     voice(image, 1, 0, given, centres);
 }

@@ -1,50 +1,67 @@
 use Prim.Native.Nat.{_-_}
-use lib.ListN.{length}
 use borrow.Author.Needs.{needs}
 use Rattle.inspect.proofs.entry.all.Statement.{statement}
 use Rattle.inspect.proofs.entry.all.Tie as tie
 use Rattle.inspect.proofs.entry.all.Reads as reads
 use Rattle.inspect.proofs.entry.all.Lts as lts
-use Rattle.console.proofs.say.text.Reads as text-reads
-use Rattle.inspect.proofs.entry.nth.Reads as nth-reads
+use Rattle.inspect.proofs.entry.larger.Reads as larger-reads
+use Rattle.inspect.proofs.entry.one.Reads as one-reads
+use Rattle.table.proofs.entry.entry_at.Reads as entry-at-reads
+use Rattle.table.proofs.start.entries_start.Reads as entries-start-reads
 
 abbrev Inv-loop : tie.InvT-loop
-Inv-loop image count i₀ t4 i = Unit {0}
+Inv-loop image start c₀ k₀ i₀ c k i = Unit {0}
 
 abbrev μ-loop : tie.MeasureT-loop
-μ-loop image count i₀ t4 i = count - i
+μ-loop image start c₀ k₀ i₀ c k i = start .count - i
 
--- src/entry.rt:45:5
+-- src/entry.rt:45:9
+entries-start-requires : tie.Need-entries-start-requires Inv-loop μ-loop
+entries-start-requires c κs = search needs
+
+-- src/entry.rt:49:5
 loop-holds : tie.Need-loop-holds Inv-loop μ-loop
 loop-holds c = tt
 
--- src/entry.rt:47:13
-nth-requires : tie.Need-nth-requires Inv-loop μ-loop
-nth-requires c κs = search needs
+-- src/entry.rt:50:15
+entry-at-requires : tie.Need-entry-at-requires Inv-loop μ-loop
+entry-at-requires c κs = search needs
 
--- src/entry.rt:50:26
-slice-aggregate-text : tie.Need-slice-aggregate-text Inv-loop μ-loop
-slice-aggregate-text c = search needs
+-- src/entry.rt:51:30
+enum-known-v : tie.Need-enum-known-v Inv-loop μ-loop
+enum-known-v c = search needs
 
--- src/entry.rt:50:13
-text-requires : tie.Need-text-requires Inv-loop μ-loop
-text-requires c κs = search needs
+-- src/entry.rt:52:17
+one-requires : tie.Need-one-requires Inv-loop μ-loop
+one-requires c κs = search needs
 
--- src/entry.rt:52:9
+-- src/entry.rt:53:17
+larger-requires : tie.Need-larger-requires Inv-loop μ-loop
+larger-requires c κs = search needs
+
+-- src/entry.rt:57:17
+enum-told : tie.Need-enum-told Inv-loop μ-loop
+enum-told c = search needs
+
+-- src/entry.rt:57:17
+returns : tie.Need-returns Inv-loop μ-loop
+returns c = search needs
+
+-- src/entry.rt:60:9
 add-i : tie.Need-add-i Inv-loop μ-loop
 add-i c = search needs
 
--- src/entry.rt:45:5
+-- src/entry.rt:49:5
 loop-less : tie.Need-loop-less Inv-loop μ-loop
 loop-less c = search needs
 
--- src/entry.rt:45:5
+-- src/entry.rt:49:5
 loop-again : tie.Need-loop-again Inv-loop μ-loop
 loop-again c = tt
 
--- src/entry.rt:43:1
-returns : tie.Need-returns Inv-loop μ-loop
-returns c = search needs
+-- src/entry.rt:44:1
+returns-2 : tie.Need-returns-2 Inv-loop μ-loop
+returns-2 c = search needs
 
 pub all-spec : {M : Type 1} → statement M
 all-spec =
@@ -52,11 +69,15 @@ all-spec =
     (tie.spec
     Inv-loop
     μ-loop
+    entries-start-requires
     loop-holds
-    nth-requires
-    slice-aggregate-text
-    text-requires
+    entry-at-requires
+    enum-known-v
+    one-requires
+    larger-requires
+    enum-told
+    returns
     add-i
     loop-less
     loop-again
-    returns)
+    returns-2)
