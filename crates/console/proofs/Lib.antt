@@ -1,3 +1,4 @@
 pub mod NarrowLaws
 pub mod FixedLaws
 pub mod ScanLaws
+pub mod Parts

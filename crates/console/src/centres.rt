@@ -168,10 +168,8 @@ pub fn from_argument(argument: usize) -> Centres
     if argument == 0 {
         return none();
     }
-    let mut path = io::buffer();
     let mut text = io::buffer();
-    let n = os::arg(argument, &mut path);
-    let r = file::read(&path[..n], &mut text);
+    let r = file::read_argument(argument, &mut text);
     if r.failed {
         return Centres {
             values: [0.0; 16],

@@ -53,7 +53,8 @@ fn read_all(fd: i32, buf: &mut [u8]) -> FileRead
     }
 }
 
-// Reads the file with a name. Where that fails, it has said so on standard error.
+// Reads the file with a name. Where that fails, it has said so on standard error. The contract only speaks of how many bytes were read:
+// which bytes a file holds, no contract can say.
 pub fn read(path: &[u8], buf: &mut [u8]) -> FileRead
     ensures { λ r. ⌜ HasRead r (now (buf .exit)) ⌝ }
 {
@@ -71,4 +72,13 @@ pub fn read(path: &[u8], buf: &mut [u8]) -> FileRead
     }
     libc::close(fd);
     r
+}
+
+// Reads the file that an argument names, as `read` does.
+pub fn read_argument(i: usize, buf: &mut [u8]) -> FileRead
+    ensures { λ r. ⌜ HasRead r (now (buf .exit)) ⌝ }
+{
+    let mut path = io::buffer();
+    let n = os::arg(i, &mut path);
+    read(&path[..n], buf)
 }

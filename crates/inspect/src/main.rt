@@ -4,7 +4,6 @@
 mod entry;
 mod voices;
 
-ghost use Rattle.console.specs.File.{HasRead};
 use console::centres;
 use console::centres::Centres;
 use console::file;
@@ -51,15 +50,12 @@ fn describe(image: &[u8], given: bool, centres: &[f32]) {
     voices::all(image, channels, given, centres);
 }
 
-// Reads the file that an argument names.
-fn read_argument(i: usize, buf: &mut [u8]) -> file::FileRead
-    ensures { λ r. ⌜ HasRead r (now (buf .exit)) ⌝ }
-{
+// Says which file an argument names, before what is said of it.
+fn say_argument(i: usize) {
     let mut path = io::buffer();
     let n = os::arg(i, &mut path);
     say::name(1, &path[..n]);
     say::text(1, b": ");
-    file::read(&path[..n], buf)
 }
 
 // One table, with the centres that argument `centres` names.
@@ -71,7 +67,8 @@ fn inspect(argument: usize, from: usize) {
     let values = centres::values(c);
     let k = c.count;
     let mut image = [0u8; 65537];
-    let r = read_argument(argument, &mut image);
+    say_argument(argument);
+    let r = file::read_argument(argument, &mut image);
     if r.failed {
         say::text(1, b"not read\n");
         return;

@@ -11,7 +11,6 @@ mod playing;
 mod sink;
 mod wav;
 
-ghost use Rattle.console.specs.File.{HasRead};
 use console::centres;
 use console::file;
 use console::say;
@@ -98,18 +97,9 @@ fn play_image(o: Options, image: &[u8], centres: &[f32]) {
     }
 }
 
-// Reads the file that an argument names, and answers how many bytes; says why where that fails.
-fn read_argument(i: usize, buf: &mut [u8]) -> file::FileRead
-    ensures { λ r. ⌜ HasRead r (now (buf .exit)) ⌝ }
-{
-    let mut path = io::buffer();
-    let n = os::arg(i, &mut path);
-    file::read(&path[..n], buf)
-}
-
 fn run(o: Options) {
     let mut image = [0u8; 65537];
-    let r = read_argument(o.table, &mut image);
+    let r = file::read_argument(o.table, &mut image);
     if r.failed {
         return;
     }

@@ -1,4 +1,4 @@
-use Rattle.inspect.proofs.Parts.{part-length}
+use Rattle.console.proofs.Parts.{part-length}
 use borrow.Author.Needs.{needs}
 use Rattle.inspect.proofs.inspect.Statement.{statement}
 use Rattle.inspect.proofs.inspect.Tie as tie
@@ -8,7 +8,8 @@ use Rattle.console.proofs.centres.from_argument.Reads as from-argument-reads
 use Rattle.console.proofs.centres.values.Reads as values-reads
 use Rattle.console.proofs.say.text.Reads as text-reads
 use Rattle.inspect.proofs.describe.Reads as describe-reads
-use Rattle.inspect.proofs.read_argument.Reads as read-argument-reads
+use Rattle.inspect.proofs.say_argument.Reads as say-argument-reads
+use Rattle.console.proofs.file.read_argument.Reads as read-argument-reads
 
 -- src/main.rt:67:9
 from-argument-requires : tie.Need-from-argument-requires
@@ -23,6 +24,9 @@ values-requires : tie.Need-values-requires
 values-requires c κs = search needs
 
 -- src/main.rt:74:37
+say-argument-requires : tie.Need-say-argument-requires
+say-argument-requires c κs = search needs
+
 slice-aggregate-read-argument : tie.Need-slice-aggregate-read-argument
 slice-aggregate-read-argument c = search needs
 
@@ -57,9 +61,9 @@ array-share-prefix-values c = search needs
 -- src/main.rt:80:37
 slice-aggregate-describe-2 : tie.Need-slice-aggregate-describe-2
 slice-aggregate-describe-2 c =
-    let b6 = c .before .before .before .before .before .before in
-    let b8 = b6 .before .before in
-    part-length _ _ 16 (b6 .values .ensures) (b8 .from-argument .ensures)
+    let b7 = c .before .before .before .before .before .before .before in
+    let b9 = b7 .before .before in
+    part-length _ _ 16 (b7 .values .ensures) (b9 .from-argument .ensures)
 
 -- src/main.rt:80:5
 describe-requires : tie.Need-describe-requires
@@ -76,6 +80,7 @@ inspect-spec =
     from-argument-requires
     returns
     values-requires
+    say-argument-requires
     slice-aggregate-read-argument
     read-argument-requires
     slice-aggregate-text

@@ -1,5 +1,5 @@
 use native.Mathlib.Omega.{arith}
-use Rattle.tone.proofs.Parts.{part-length}
+use Rattle.console.proofs.Parts.{part-length}
 use borrow.Author.Needs.{needs}
 use Rattle.tone.proofs.playing.block.Statement.{statement}
 use Rattle.tone.proofs.playing.block.Tie as tie
