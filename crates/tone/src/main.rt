@@ -51,7 +51,7 @@ fn usage(fd: i32) {
     );
     say::text(
         fd,
-        b"Numbers are decimal, with at most 15 digits. Numbered refusals are in docs/PROGRAMS.md.\n",
+        b"Numbers are decimal, with at most 15 digits. Numbered refusals are in README.md.\n",
     );
 }
 
