@@ -2,3 +2,5 @@ pub mod NarrowLaws
 pub mod FixedLaws
 pub mod ScanLaws
 pub mod Parts
+pub mod CentresLaws
+pub mod CentresExamples

@@ -3,3 +3,4 @@ pub mod Narrow
 pub mod Fixed
 pub mod File
 pub mod Centres
+pub mod Reader

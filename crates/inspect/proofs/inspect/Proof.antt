@@ -63,7 +63,7 @@ slice-aggregate-describe-2 : tie.Need-slice-aggregate-describe-2
 slice-aggregate-describe-2 c =
     let b7 = c .before .before .before .before .before .before .before in
     let b9 = b7 .before .before in
-    part-length _ _ 16 (b7 .values .ensures) (b9 .from-argument .ensures)
+    part-length _ _ 16 (b7 .values .ensures .1) (b9 .from-argument .ensures)
 
 -- src/main.rt:80:5
 describe-requires : tie.Need-describe-requires

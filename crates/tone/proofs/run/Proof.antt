@@ -50,7 +50,7 @@ slice-aggregate-play-image-2 : tie.Need-slice-aggregate-play-image-2
 slice-aggregate-play-image-2 c =
     let b2 = c .before .before in
     let b4 = b2 .before .before in
-    part-length _ _ 16 (b2 .values .ensures) (b4 .from-argument .ensures)
+    part-length _ _ 16 (b2 .values .ensures .1) (b4 .from-argument .ensures)
 
 -- src/main.rt:102:5
 play-image-requires : tie.Need-play-image-requires
