@@ -1,9 +1,10 @@
--- The straight line between two entries: a is the wave at k, b that at k + 1.
+-- The straight line between two entries: a is the wave of the lent list at k, b that at k + 1.
 use mathlib.Core.Path.{_≡_, sym, ap, _∙_, subst}
-use Prim.Native.Nat.{ℕ, _+_, _≤_, _<_}
+use Prim.Native.Nat.{ℕ, _+_, _≤_}
 use native.Mathlib.Nat.{le-trans, le-of-eq}
 use native.Mathlib.Omega.{arith}
 use mathlib.Core.Bool.{false}
+use mathlib.Core.List.{List}
 use lib.IntN.{ℤ, pos, negsuc, natAbs, _-ℤ_}
 use lib.Dec.{T}
 use lib.Ieee.{Float, fin, binary32, add, mul, sub, ofInt, inFloat}
@@ -11,8 +12,7 @@ use mir.Syntax.{w32}
 use mir.Val.{SFits, toZ, ofZ}
 use mir.ValLaws.{toZ-ofZ}
 use Rattle.float.proofs.Ints.{abs-minus, abs-sfits, abs-in-float}
-use Rattle.wave_table.specs.Wave.{waveOf}
-use Rattle.filters.specs.Wave.{placeOf, cellOf, sineOf}
+use Rattle.filters.specs.Wave.{placeOf, cellOf, waveIn, lineIn}
 use Rattle.filters.proofs.Quarters.{wave-abs}
 
 wider : (n : ℕ) → n ≤ 8388608 → n ≤ 16777216
@@ -21,12 +21,12 @@ wider n h = omega arith
 abbrev back : ℤ → ℤ
 back z = toZ w32 (ofZ w32 z)
 
-module _ (k : ℕ) (a b : ℤ) (h : k < 1024) (ea : a ≡ waveOf k) (eb : b ≡ waveOf (k + 1)) where
+module _ (xs : List ℕ) (k : ℕ) (a b : ℤ) (ea : a ≡ waveIn xs k) (eb : b ≡ waveIn xs (k + 1)) where
   size-a : natAbs a ≤ 8388608
-  size-a = le-trans (le-of-eq (ap natAbs ea)) (wave-abs k (omega arith))
+  size-a = le-trans (le-of-eq (ap natAbs ea)) (wave-abs xs k)
 
   size-b : natAbs b ≤ 8388608
-  size-b = le-trans (le-of-eq (ap natAbs eb)) (wave-abs (k + 1) (omega arith))
+  size-b = le-trans (le-of-eq (ap natAbs eb)) (wave-abs xs (k + 1))
 
   size-d : natAbs (b -ℤ a) ≤ 16777216
   size-d = abs-minus b a 8388608 8388608 size-b size-a
@@ -55,10 +55,10 @@ module _ (k : ℕ) (a b : ℤ) (h : k < 1024) (ea : a ≡ waveOf k) (eb : b ≡ 
   abbrev body : Float → ℕ → ℤ → ℤ → Float
   body q n x d = mul binary32 (add binary32 (ofInt binary32 x) (mul binary32 (sub binary32 q (ofInt binary32 (pos n))) (ofInt binary32 d))) (fin false 1 (negsuc 22))
 
-  pub line : (p : Float) → k ≡ cellOf p → body (placeOf p) k (back a) (back (back b -ℤ back a)) ≡ sineOf p
-  unfolding sineOf
+  pub line : (p : Float) → k ≡ cellOf p → body (placeOf p) k (back a) (back (back b -ℤ back a)) ≡ lineIn xs p
+  unfolding lineIn
   line p e =
       let q = placeOf p in
       ap (λ (z : ℤ). body q k z (back (back b -ℤ back a))) (read-a ∙ ea)
-      ∙ ap (λ (z : ℤ). body q k (waveOf k) z) (read-d ∙ ap (λ (z : ℤ). z -ℤ a) eb ∙ ap (λ (z : ℤ). waveOf (k + 1) -ℤ z) ea)
-      ∙ ap (λ (n : ℕ). body q n (waveOf n) (waveOf (n + 1) -ℤ waveOf n)) e
+      ∙ ap (λ (z : ℤ). body q k (waveIn xs k) z) (read-d ∙ ap (λ (z : ℤ). z -ℤ a) eb ∙ ap (λ (z : ℤ). waveIn xs (k + 1) -ℤ z) ea)
+      ∙ ap (λ (n : ℕ). body q n (waveIn xs n) (waveIn xs (n + 1) -ℤ waveIn xs n)) e

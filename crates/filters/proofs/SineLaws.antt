@@ -1,26 +1,29 @@
--- The wave's steps: q = p * 1024 and r = q - k are exact, k is below 1024, and S is from -1 to 1.
+-- The wave's steps: q = p * 1024 and r = q - k are exact, k is below 1024, S is from -1 to 1, and what `sine` answers over the table is S.
 use mathlib.Core.Path.{_≡_, refl, sym, ap, _∙_, subst}
-use Prim.Native.Nat.{ℕ, suc, _+_, _*_, _%_, _≤_, _<_}
+use Prim.Native.Nat.{ℕ, suc, _+_, _-_, _*_, _%_, _≤_, _<_, min}
 use native.Mathlib.Nat.{le-trans, le-of-eq, le-of-lt, lt-of-lt-of-le, lt-of-le-of-lt, mul-comm, mul-assoc, mul-le-mul-right, mul-lt-mul-of-pos-right, lt-of-mul-lt-mul-right, mul-pos, mul-one, one-mul, div-lt-iff-lt-mul, mod-lt}
 use native.Mathlib.Omega.{arith}
-use mathlib.Core.Bool.{Bool, true, false, _||_}
-use lib.IntN.{ℤ, pos, negsuc, natAbs, _-ℤ_}
-use lib.Dec.{T, leb, leb→le, lit≤, lit<}
-use lib.Ieee.{Float, fin, binary32, round, mul, add, neg, ofInt, fits}
+use mathlib.Core.Bool.{Bool, true, false, not, _&&_, _||_, cond}
+use mathlib.Core.List.{List}
+use lib.IntN.{ℤ, pos, negsuc, negℤ, natAbs, _-ℤ_}
+use lib.Dec.{T, leb, leb→le, nleb→lt, lit≤, lit<}
+use lib.Ieee.{Float, nan, inf, fin, binary32, round, mul, add, sub, neg, lt, ofInt, toUnsigned, fits}
 use lib.Ieee.Fits.{mul-fits}
 use lib.Ieee.Exact.{HasValue}
 use lib.Ieee.Back.{round-whole}
 use lib.Ieee.Positive.{num, den, den-pos}
 use Rattle.float.specs.Range.{plain, Within, Below, Mag}
-use Rattle.float.proofs.Within.{Holds, value-plain, value-cross, value-within, mul-within}
+use Rattle.float.proofs.Within.{Holds, value-plain, value-cross, value-within, mul-within, lt→cross, cross→lt, le→cross}
 use Rattle.float.proofs.Scaled.{scale-value}
-use Rattle.float.proofs.Fraction.{fraction-value, whole-is}
+use Rattle.float.proofs.Fraction.{fraction-value, whole-is, not-lt}
+use Rattle.float.proofs.Unique.{plain-unique}
 use Rattle.float.proofs.Bounds.{round-neg, mul-neg, int-within}
 use Rattle.float.proofs.Mag.{within-mag, int-mag, mul-mag, add-mag}
-use Rattle.filters.specs.Wave.{Phase}
-use Rattle.wave_table.specs.Wave.{quarterOf, waveOf}
-use Rattle.filters.specs.Wave.{placeOf, cellOf, restOf, sineOf}
+use Rattle.float.specs.F32.{nearest}
+use Rattle.wave_table.specs.Wave.{quarterOf, signedQuarter, waveOf, Table}
+use Rattle.filters.specs.Wave.{Phase, placeOf, cellOf, restOf, lineOf, sineOf, quarterIn, signedIn, waveIn, lineIn, sineIn}
 use Rattle.wave_table.proofs.Every.{upTo-is}
+use Rattle.wave_table.proofs.Entries.{small}
 use Rattle.filters.proofs.Apart.{signed, plain-signed, neg-signed, add-apart}
 
 -- p is below 1
@@ -185,3 +188,89 @@ sine-mag p t h =
     let l : k < 1024 = cell-lt p t h in
     mul-mag binary32 (add binary32 (ofInt binary32 (waveOf k)) (mul binary32 (restOf p) (ofInt binary32 (waveOf (k + 1) -ℤ waveOf k)))) (fin false 1 (negsuc 22)) 8388608 1 1 8388608 1 1 (lit< tt) (lit< tt) (lit< tt) (refl, refl)
     (either (restOf p) (rest-within p t h) (waveOf k) (waveOf (k + 1) -ℤ waveOf k) (size-is k l) (step-is k l) (calm-is k l)) (record { finite-is = tt; upper = lit≤ tt }) (lit≤ tt)
+
+-- ---- what `sine` answers
+-- by the comparisons above 0 and below 1 is a phase
+pub phase-is : (p : Float) → T (lt (nearest 0 1) p) → T (lt p (nearest 1 1)) → Phase p
+unfolding round lt
+phase-is nan h g = absurd h
+phase-is (inf true) h g = absurd h
+phase-is (inf false) h g = absurd g
+phase-is (fin true m e) h g = absurd h
+phase-is (fin false m e) h g = record { plain-is = tt; strict = lt→cross (fin false m e) (nearest 1 1) tt tt g }
+
+-- a phase is below 1 by the comparison
+below-one : (p : Float) → Phase p → T (lt p (nearest 1 1))
+unfolding round
+below-one p h = cross→lt p (nearest 1 1) (h .plain-is) tt (h .strict)
+
+-- and, where it is not above 0, it is 0
+not-above : (p : Float) → T (fits binary32 p) → Phase p → lt (nearest 0 1) p ≡ false → p ≡ nearest 0 1
+unfolding round fits
+not-above p t h l =
+    plain-unique binary32 p (nearest 0 1) t tt (h .plain-is) tt
+    (none (num p) (den p) (le→cross p (nearest 0 1) (h .plain-is) tt (not-lt (nearest 0 1) p tt (h .plain-is) l)))
+  where
+    none : (a b : ℕ) → a * 1 ≤ 0 * b → a * 1 ≡ 0 * b
+    none a b h = omega arith
+
+-- LAW: S(0) is 0
+pub zero-sine : nearest 0 1 ≡ sineOf (nearest 0 1)
+unfolding sineOf waveOf quarterOf round mul add sub ofInt toUnsigned
+zero-sine = refl
+
+module _ (xs : List ℕ) (t : Table xs) where
+  quarter-in : (k : ℕ) → k ≤ 256 → quarterIn xs k ≡ quarterOf k
+  quarter-in k h = ap (λ (n : ℕ). min n 8388608) (t .entry k h) ∙ kept (quarterOf k) (small k (below k h))
+    where
+      below : (k : ℕ) → k ≤ 256 → k < 257
+      below k h = omega arith
+
+      kept : (n : ℕ) → n ≤ 8388608 → min n 8388608 ≡ n
+      kept n h = omega arith
+
+  signed-in : (minus : Bool) (k : ℕ) → k ≤ 256 → signedIn xs minus k ≡ signedQuarter minus k
+  signed-in minus k h = ap (λ (n : ℕ). cond minus (negℤ (pos n)) (pos n)) (quarter-in k h)
+
+  -- LAW: over the table W is W
+  pub wave-in : (k : ℕ) → k ≤ 1024 → waveIn xs k ≡ waveOf k
+  unfolding waveIn waveOf
+  wave-in k h = go (leb k 256) (leb k 512) (leb k 768) (leb→le k 256) (leb→le k 768) (nleb→lt k 256) (nleb→lt k 768)
+    where
+      in2 : (k : ℕ) → 256 < k → 512 - k ≤ 256
+      in2 k h = omega arith
+
+      in3 : (k : ℕ) → k ≤ 768 → k - 512 ≤ 256
+      in3 k h = omega arith
+
+      in4 : (k : ℕ) → 768 < k → 1024 - k ≤ 256
+      in4 k h = omega arith
+
+      go : (a b c : Bool) → (T a → k ≤ 256) → (T c → k ≤ 768) → (T (not a) → 256 < k) → (T (not c) → 768 < k)
+          → cond a (signedIn xs false k) (cond b (signedIn xs false (512 - k)) (cond c (signedIn xs true (k - 512)) (signedIn xs true (1024 - k))))
+          ≡ cond a (signedQuarter false k) (cond b (signedQuarter false (512 - k)) (cond c (signedQuarter true (k - 512)) (signedQuarter true (1024 - k))))
+      go true b c f1 f3 g1 g3 = signed-in false k (f1 tt)
+      go false true c f1 f3 g1 g3 = signed-in false (512 - k) (in2 k (g1 tt))
+      go false false true f1 f3 g1 g3 = signed-in true (k - 512) (in3 k (f3 tt))
+      go false false false f1 f3 g1 g3 = signed-in true (1024 - k) (in4 k (g3 tt))
+
+  -- LAW: over the table the line of a phase is S
+  pub line-in : (p : Float) → T (fits binary32 p) → Phase p → lineIn xs p ≡ sineOf p
+  unfolding lineIn sineOf
+  line-in p f h =
+      let k = cellOf p in
+      let l : k < 1024 = cell-lt p f h in
+      ap (λ (z : ℤ). lineOf p z (waveIn xs (k + 1))) (wave-in k (le-of-lt l)) ∙ ap (λ (z : ℤ). lineOf p (waveOf k) z) (wave-in (k + 1) (next k l))
+    where
+      next : (k : ℕ) → k < 1024 → k + 1 ≤ 1024
+      next k l = omega arith
+
+  -- LAW: over the table and of a phase the answer is S
+  pub sine-in : (p : Float) → T (fits binary32 p) → Phase p → sineIn xs p ≡ sineOf p
+  unfolding sineIn
+  sine-in p f h = go (lt (nearest 0 1) p) (lt p (nearest 1 1)) (below-one p h) (not-above p f h)
+    where
+      go : (a b : Bool) → T b → (a ≡ false → p ≡ nearest 0 1) → cond (a && b) (lineIn xs p) (nearest 0 1) ≡ sineOf p
+      go true true u v = line-in p f h
+      go false true u v = zero-sine ∙ ap sineOf (sym (v refl))
+      go a false u v = absurd u

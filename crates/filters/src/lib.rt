@@ -1,4 +1,4 @@
-// Noise and the bands that it passes, one sample at a time: noise numbers, band-pass filters, and what makes up for the power that a band takes away.
+// Noise and the bands that it passes, one sample at a time: noise numbers, band-pass filters, and what makes up for the power that a band takes away; and the wave that stands for a sine.
 mod band;
 mod biquad;
 mod compensation;
@@ -15,3 +15,4 @@ pub use compensation::NoisePower;
 pub use compensation::biquad_noise_power_gain;
 pub use rng::Bipolar;
 pub use rng::Rng;
+pub use wave::sine;
