@@ -1,26 +1,20 @@
 -- Laws of an entry's coefficients, by the tests of the code. Assumes nothing.
-use Prim.Native.Nat.{ℕ, zero, suc, _+_, _-_, _*_, _≤_, _<_, max}
-use mathlib.Core.Path.{_≡_, refl, ap, sym, _∙_}
-use mathlib.Core.List.{List, [], _∷_}
-use mathlib.Core.Bool.{Bool, true, false, _&&_, _||_}
+use Prim.Native.Nat.{ℕ, zero, suc, _+_, _-_, _≤_, _<_, max}
+use mathlib.Core.Path.{_≡_, refl}
+use mathlib.Core.List.{List}
+use mathlib.Core.Bool.{Bool, true, false, _||_}
 use native.Mathlib.Omega.{arith}
 use native.Mathlib.Numerals.{add-one}
-use native.Mathlib.Nat.{lt-of-mul-lt-mul-right, mul-suc, mul-zero}
-use lib.ListN.{length, getD}
-use lib.Dec.{leb, ltb, eqb}
-use lib.Ieee.{Float}
-use borrow.Author.Tests.{leb-true, eqb-true, lt-ltb, le-ltb, le-leb, lt-leb}
-use Rattle.wire.specs.Parse.{Refusal, pick}
+use lib.Dec.{leb, eqb}
+use borrow.Author.Tests.{leb-true, lt-ltb, le-ltb, le-leb, lt-leb}
 use Rattle.table.specs.declared.entry.EntryView.{EntryView}
 use Rattle.table.specs.declared.error.CoeffTableCodecError.{CoeffTableCodecError}
 use Rattle.table.specs.Answer.{refusalOf}
 use Rattle.table.specs.Table.{PitchEntry, mPartials, coefficientAt}
 use Rattle.table.specs.View.{entryAt}
 use Rattle.table.proofs.WordLaws.{length-words}
-use Rattle.table.proofs.EntryLaws.{coefficient-is}
 use Rattle.float.specs.F32.{nearest}
 use Rattle.making.specs.Making.{f32, sizesOk, partialCoeff, noiseCoeff, isNonzero, reach, reachIn, liveIn}
-use Rattle.making.specs.Views.{formed}
 use Rattle.player.proofs.Loops.{both-true}
 
 -- M is what the view says
@@ -50,36 +44,6 @@ size-yes s v h = rw (partials-are s v, le-leb (v .«m_partials») 32 h) refl
 
 pub size-no : (s : List ℕ) (v : EntryView) → 32 < v .«m_partials» → false ≡ sizesOk (entryAt s v)
 size-no s v h = rw (partials-are s v, lt-leb (v .«m_partials») 32 h) refl
-
--- the coefficients are k rows of a width, one after the other
-pub formed-is : (s : List ℕ) (v : EntryView) → formed (entryAt s v) ≡ true → v .«k_channels» * (v .«m_partials» + v .«j_noise») ≡ v .coefficients
-formed-is s v h =
-    let p : v .«k_channels» * (mPartials (entryAt s v) + v .«j_noise») ≡ length (entryAt s v .coefficients) = eqb-true _ _ h in
-    ap (λ (m : ℕ). v .«k_channels» * (m + v .«j_noise»)) (sym (partials-are s v)) ∙ p ∙ length-words s (v .«coefficients_at») (v .coefficients)
-
-not-empty : (k w x n : ℕ) → k * w ≡ n → x < n → 0 < w
-not-empty k zero x n e h = absurd (omega (arith, mul-zero k))
-not-empty k (suc w) x n e h = omega arith
-
-pub row-wide : (s : List ℕ) (v : EntryView) (x : ℕ) → formed (entryAt s v) ≡ true → x < v .coefficients → 0 < v .«m_partials» + v .«j_noise»
-row-wide s v x f h = not-empty (v .«k_channels») (v .«m_partials» + v .«j_noise») x (v .coefficients) (formed-is s v f) h
-
--- column c of row r stands at x: so there is such a row, and its number is no larger than x
-pub row-there : (s : List ℕ) (v : EntryView) (r c x : ℕ) → formed (entryAt s v) ≡ true → x < v .coefficients → r * (v .«m_partials» + v .«j_noise») + c ≡ x → r < v .«k_channels»
-row-there s v r c x f h e =
-    let w = v .«m_partials» + v .«j_noise» in
-    let l : r * w < v .«k_channels» * w = omega (arith, formed-is s v f) in
-    lt-of-mul-lt-mul-right w l
-
-pub row-small : (r w c x : ℕ) → c < w → r * w + c ≡ x → r ≤ x
-row-small r zero c x l e = absurd (omega arith)
-row-small r (suc w) c x l e = omega (arith, mul-suc r w)
-
--- the coefficient at column c of row r stands at x
-pub coefficient-flat : (s : List ℕ) (v : EntryView) (r c x : ℕ) → formed (entryAt s v) ≡ true → x < v .coefficients → r * (v .«m_partials» + v .«j_noise») + c ≡ x → c < v .«m_partials» + v .«j_noise»
-    → coefficientAt (entryAt s v) r c ≡ getD (entryAt s v .coefficients) x 0
-coefficient-flat s v r c x f h e l =
-    coefficient-is s v r c (row-there s v r c x f h e) l ∙ ap (λ (i : ℕ). getD (entryAt s v .coefficients) i 0) e
 
 -- the highest partial that is not 0, from the top down
 pub reach-hit : (e : PitchEntry) (c i : ℕ) → 0 < i → isNonzero (partialCoeff e c (i - 1)) ≡ true → reach e c i ≡ i

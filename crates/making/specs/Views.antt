@@ -1,14 +1,12 @@
 -- Entries of a table where they stand in an image, held as their views. Cited by private functions only.
-use Prim.Native.Nat.{ℕ, zero, suc, _+_, _*_, _-_}
+use Prim.Native.Nat.{ℕ, suc}
 use mathlib.Core.List.{List, [], _∷_, map}
-use mathlib.Core.Bool.{Bool, true, false, _&&_}
-use lib.ListN.{length, take}
-use lib.Dec.{eqb}
+use lib.ListN.{take}
 use lib.Ieee.{Float, lt}
 use Rattle.wire.specs.Parse.{Refusal, refusal, pick}
 use Rattle.table.specs.declared.entry.EntryView.{EntryView}
 use Rattle.table.specs.declared.desk.Kind.{Kind}
-use Rattle.table.specs.Table.{PitchEntry, width}
+use Rattle.table.specs.Table.{PitchEntry}
 use Rattle.table.specs.View.{entryAt}
 use Rattle.table.specs.Desk.{bandCount}
 use Rattle.player.specs.Voice.{rateOk}
@@ -34,10 +32,6 @@ noView = record {
   «pairs_at» = 0;
   end = 0;
 }
-
--- question 6 was answered yes: k × (M + j) is the coefficient count
-abbrev pub formed : PitchEntry → Bool
-formed e = eqb (e .kChannels * width e) (length (e .coefficients))
 
 -- what follows the values' answer: refusal 9 with the index, or the rest
 abbrev pub valuesThen : ValuesAnswer → Refusal → Refusal

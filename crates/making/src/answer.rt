@@ -10,7 +10,7 @@ ghost use Rattle.table.specs.Table.{hasChannel};
 ghost use Rattle.table.specs.Desk.{bandCount};
 ghost use Rattle.player.specs.Voice.{rateOk};
 ghost use Rattle.making.specs.Making.{any, all, sizesOk, channelFound, centresOk, tableQuestion};
-ghost use Rattle.making.specs.Views.{viewed, formed, laterQuestion};
+ghost use Rattle.making.specs.Views.{viewed, laterQuestion};
 ghost use Rattle.making.specs.MakeAnswer.{makeRefusal};
 use crate::limits::sizes_ok;
 use crate::values::ValuesAnswer;
@@ -142,7 +142,7 @@ pub fn question(
     sample_rate: f32,
     centres: &[f32],
 ) -> MakeAnswer
-    requires { ⌜ count ≤ 16 ⌝ ∗ ⌜ all formed (viewed (now image) views count) ≡ true ⌝ ∗ ⌜ ((s : List ℕ) → bands ≡ bandCount kind (viewed s views count)) ⌝ }
+    requires { ⌜ count ≤ 16 ⌝ ∗ ⌜ ((s : List ℕ) → bands ≡ bandCount kind (viewed s views count)) ⌝ }
     ensures { λ r. ⌜ makeRefusal r ≡ tableQuestion kind (viewed (now (image .entry)) views count) «sample_rate» (now (centres .entry)) ⌝ }
 {
     if !sizes_ok(views, count) {

@@ -7,7 +7,7 @@ ghost use lib.ListN.{length};
 ghost use Rattle.table.specs.Desk.{bandCount};
 ghost use Rattle.player.specs.Voice.{firstState, rateOk};
 ghost use Rattle.making.specs.Making.{all, sizesOk, kindNumber, kindChannel, freshVoice, blankVoice, makeOf};
-ghost use Rattle.making.specs.Views.{viewed, formed};
+ghost use Rattle.making.specs.Views.{viewed};
 ghost use Rattle.making.specs.MakeAnswer.{makeRefusal, madeOf, tableMade};
 use crate::answer::MakeAnswer;
 use crate::answer::is_done;
@@ -168,7 +168,7 @@ fn make_from(
     sample_rate: f32,
     centres: &[f32],
 ) -> MadeVoice
-    requires { ⌜ count ≤ 16 ⌝ ∗ ⌜ all formed (viewed (now image) views count) ≡ true ⌝ ∗ ⌜ ((s : List ℕ) → j ≡ bandCount kind (viewed s views count)) ⌝ }
+    requires { ⌜ count ≤ 16 ⌝ ∗ ⌜ ((s : List ℕ) → j ≡ bandCount kind (viewed s views count)) ⌝ }
     ensures { λ r. ⌜ madeOf r ≡ tableMade kind (viewed (now (image .entry)) views count) «sample_rate» (now (centres .entry)) ⌝ }
 {
     let answer = question(image, views, count, kind, j, sample_rate, centres);

@@ -1,18 +1,17 @@
 // Question 9: the values of each entry.
 ghost use mathlib.Core.Path.{_≡_};
-ghost use Prim.Native.Nat.{_+_, _*_, _≤_, _<_};
-ghost use mathlib.Core.Bool.{true};
+ghost use Prim.Native.Nat.{_≤_};
 ghost use lib.Ieee.Scale.{finite};
 ghost use Rattle.wire.specs.Parse.{Refusal};
 ghost use Rattle.table.specs.View.{entryAt};
 ghost use Rattle.table.specs.Answer.{foundBits};
 ghost use Rattle.player.specs.Voice.{pitchOk, stretchOk};
-ghost use Rattle.making.specs.Making.{f32, all, sizesOk, presentFinite, valuesOk, askValues};
-ghost use Rattle.making.specs.Views.{viewed, formed, valuesThen};
+ghost use Rattle.making.specs.Making.{f32, all, presentFinite, valuesOk, askValues};
+ghost use Rattle.making.specs.Views.{viewed, valuesThen};
 use table::Found;
 use table::entry::EntryView;
-use table::entry::coefficient;
 use table::entry::metadata_value;
+use table::entry::nth_coefficient;
 
 // All values are good, or the index of the first entry with a bad one.
 pub enum ValuesAnswer {
@@ -47,48 +46,22 @@ fn found_ok(f: Found) -> bool
     }
 }
 
-// A coefficient's channel and its column in the channel's row.
-struct Place {
-    row: u32,
-    column: u32,
-}
-
-// The place of the next coefficient: a division for each would cost more than the test.
-fn next_place(p: Place, width: u32) -> Place
-    requires { ⌜ p .column < width ⌝ ∗ ⌜ p .row < 4294967295 ⌝ }
-    ensures { λ r. ⌜ (r .row * width + r .column ≡ p .row * width + p .column + 1) × (r .column < width) ⌝ }
-{
-    let column = p.column + 1;
-    if column < width {
-        return Place { row: p.row, column };
-    }
-    Place {
-        row: p.row + 1,
-        column: 0,
-    }
-}
-
 // Every coefficient is finite: row after row.
 fn coefficients_ok(s: &[u8], v: EntryView) -> bool
-    requires { ⌜ sizesOk (entryAt (now s) v) ≡ true ⌝ ∗ ⌜ formed (entryAt (now s) v) ≡ true ⌝ }
     ensures { λ r. ⌜ r ≡ all (λ b. finite (f32 b)) (entryAt (now (s .entry)) v .coefficients) ⌝ }
 {
-    let width = v.m_partials + v.j_noise;
     let n = v.coefficients;
-    let mut p = Place { row: 0, column: 0 };
     let mut x: u32 = 0;
     while x < n {
-        if !float::is_finite(float::from_bits(coefficient(s, v, p.row, p.column))) {
+        if !float::is_finite(float::from_bits(nth_coefficient(s, v, x as usize))) {
             return false;
         }
-        p = next_place(p, width);
         x += 1;
     }
     true
 }
 
 fn values_ok(s: &[u8], v: EntryView) -> bool
-    requires { ⌜ sizesOk (entryAt (now s) v) ≡ true ⌝ ∗ ⌜ formed (entryAt (now s) v) ≡ true ⌝ }
     ensures { λ r. ⌜ r ≡ valuesOk (entryAt (now (s .entry)) v) ⌝ }
 {
     if !pitch_ok(float::from_bits(v.f0_hz)) {
@@ -108,7 +81,7 @@ fn values_ok(s: &[u8], v: EntryView) -> bool
 
 // The first entry with a bad value.
 pub fn first_bad(s: &[u8], views: [EntryView; 16], count: usize) -> ValuesAnswer
-    requires { ⌜ count ≤ 16 ⌝ ∗ ⌜ all sizesOk (viewed (now s) views count) ≡ true ⌝ ∗ ⌜ all formed (viewed (now s) views count) ≡ true ⌝ }
+    requires { ⌜ count ≤ 16 ⌝ }
     ensures { λ r. ⌜ ((rest : Refusal) → valuesThen r rest ≡ askValues 0 (viewed (now (s .entry)) views count) rest) ⌝ }
 {
     let mut i = 0;

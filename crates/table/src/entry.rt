@@ -131,7 +131,7 @@ pub fn has_channel(v: EntryView, channel: u32) -> bool
 }
 
 // The bits of the coefficient with an index, row after row; 0 past the last.
-fn coefficient_word(s: &[u8], v: EntryView, i: usize) -> u32
+pub fn nth_coefficient(s: &[u8], v: EntryView, i: usize) -> u32
     ensures { λ r. ⌜ r ≡ getD (entryAt (now (s .entry)) v .coefficients) i 0 ⌝ }
 {
     let n = v.coefficients;
@@ -158,12 +158,12 @@ pub fn coefficient(s: &[u8], v: EntryView, channel: u32, column: u32) -> u32
         return 0;
     }
     if channel == 0 {
-        return coefficient_word(s, v, column as usize);
+        return nth_coefficient(s, v, column as usize);
     }
     if (v.coefficients as usize) < width {
         return 0;
     }
-    coefficient_word(s, v, (channel as usize) * width + (column as usize))
+    nth_coefficient(s, v, (channel as usize) * width + (column as usize))
 }
 
 // The value of a key in the entry's metadata.

@@ -1,12 +1,9 @@
 use mathlib.Core.Path.{_≡_, refl, sym, ap, _∙_}
-use Prim.Native.Nat.{ℕ, _≤_, _-_, _+_, _*_, _<_, max}
 use native.Mathlib.Omega.{arith}
 use lib.ListN.{length}
-use mathlib.Core.List.{List}
 use Rattle.making.specs.Views.{viewed}
 use borrow.Author.Tests.{not-true, not-false}
-use Rattle.wire.specs.Parse.{Refusal}
-use Rattle.making.specs.Making.{tableQuestion, limitsOk, askValues}
+use Rattle.making.specs.Making.{tableQuestion}
 use Rattle.making.specs.Views.{valuesThen, laterQuestion}
 use Rattle.making.specs.declared.values.ValuesAnswer.{ValuesAnswer}
 use Rattle.making.proofs.GatherLaws.{limits-are}
@@ -33,10 +30,7 @@ returns c =
 
 -- src/answer.rt:151:11
 first-bad-requires : tie.Need-first-bad-requires
-first-bad-requires c κs =
-    let b1 = c .before in
-    let b4 = b1 .before .before .before in
-    (b4 .pre .0, (sym (b1 .sizes-ok .ensures (b4 .args .image .now)) ∙ not-false _ (c .if1 .left), b4 .pre .1 .0))
+first-bad-requires c κs = search needs
 
 -- src/answer.rt:152:27
 enum-known-i : tie.Need-enum-known-i

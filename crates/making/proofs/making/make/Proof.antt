@@ -1,26 +1,18 @@
-use Rattle.making.proofs.ReadLaws.{desk-refused, desk-read, all-formed, bands-same, too-many, refused-make}
+use Rattle.making.proofs.ReadLaws.{desk-refused, desk-read, bands-same, too-many, refused-make}
 use mathlib.Core.Path.{_≡_, refl, sym, ap, _∙_}
-use Prim.Native.Nat.{ℕ, _≤_, _-_, _+_, _*_, _<_, max}
 use native.Mathlib.Omega.{arith}
 use lib.ListN.{length}
-use mathlib.Core.List.{List}
 use Rattle.making.specs.Views.{viewed}
-use mathlib.Core.List.{map}
 use lib.ListN.{take}
-use Rattle.wire.specs.Parse.{Refusal, Parsed, ok}
-use Rattle.table.specs.Table.{CoeffTable, PitchEntry}
 use Rattle.table.specs.Decode.{decode}
-use Rattle.table.specs.View.{entryAt, entryList}
 use Rattle.table.specs.Start.{startOf}
 use Rattle.table.specs.Desk.{bandCount, deskAnswer}
 use Rattle.table.specs.declared.desk.Desk.{Desk}
 use Rattle.table.specs.declared.start.Start.{Start}
 use Rattle.table.proofs.StartLaws.{entries-stand}
-use Rattle.making.specs.Making.{all, makeOf, makeQuestion, tableQuestion}
-use Rattle.making.specs.MakeAnswer.{makeRefusal, tableMade}
-use Rattle.making.specs.Views.{formed}
-use Rattle.making.proofs.CoeffLaws.{refused-number}
-use Rattle.making.proofs.ReadLaws.{desk-refused, desk-read, all-formed, bands-same, too-many, given-back}
+use Rattle.making.specs.Making.{makeOf, makeQuestion}
+use Rattle.making.specs.MakeAnswer.{tableMade}
+use Rattle.making.proofs.ReadLaws.{desk-refused, desk-read, bands-same, too-many}
 use borrow.Author.Needs.{needs}
 use Rattle.making.proofs.making.make.Statement.{statement}
 use Rattle.making.proofs.making.make.Tie as tie
@@ -90,7 +82,7 @@ make-from-requires c κs =
     desk-read (b9 .args .kind) (decode (b9 .args .image .now)) _ (ap deskAnswer (sym (b4 .d .given .1)) ∙ b6 .for-voice .ensures) λ t e p x.
     let q = entries-stand (b9 .args .image .now) t e p in
     let w : viewed (b9 .args .image .now) (c .views-of .result) (b2 .entries-start .result .count) ≡ t .entries = c .views-of .ensures ∙ rw (b2 .entries-start .ensures) q in
-    (omega arith, (ap (all formed) (c .views-of .ensures) ∙ all-formed _ 0 (b9 .args .image .now) _, λ s. ap (λ (y : Desk). y .bands) x ∙ ap (bandCount (b9 .args .kind)) (sym w) ∙ bands-same (b9 .args .kind) (b9 .args .image .now) s (take (b2 .entries-start .result .count) (c .views-of .result))))
+    (omega arith, λ s. ap (λ (y : Desk). y .bands) x ∙ ap (bandCount (b9 .args .kind)) (sym w) ∙ bands-same (b9 .args .kind) (b9 .args .image .now) s (take (b2 .entries-start .result .count) (c .views-of .result)))
 
 -- src/making.rt:186:1
 returns-2 : tie.Need-returns-2

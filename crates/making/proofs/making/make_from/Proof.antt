@@ -37,7 +37,7 @@ fresh-requires c κs =
     let b1 = c .before in
     let b2 = b1 .before in
     let b5 = b2 .before .before .before in
-    let z : tableQuestion (b5 .args .kind) (viewed (b5 .args .image .now) (b5 .args .views) (b5 .args .count)) (b5 .args .sample-rate) (b5 .args .centres .now) .number ≡ 0 = ap (λ (q : Refusal). q .number) (sym (b2 .question .ensures)) ∙ eqb-true _ _ (sym (b1 .is-done .ensures) ∙ c .if1 .taken) in let a = table-accepted (b5 .args .kind) (viewed (b5 .args .image .now) (b5 .args .views) (b5 .args .count)) (b5 .args .sample-rate) (b5 .args .centres .now) z in (b5 .pre .0, (a .sizes, (b5 .pre .1 .1 (b5 .args .image .now), (a .rate-ok, a .as-many ∙ sym (b5 .pre .1 .1 (b5 .args .image .now))))))
+    let z : tableQuestion (b5 .args .kind) (viewed (b5 .args .image .now) (b5 .args .views) (b5 .args .count)) (b5 .args .sample-rate) (b5 .args .centres .now) .number ≡ 0 = ap (λ (q : Refusal). q .number) (sym (b2 .question .ensures)) ∙ eqb-true _ _ (sym (b1 .is-done .ensures) ∙ c .if1 .taken) in let a = table-accepted (b5 .args .kind) (viewed (b5 .args .image .now) (b5 .args .views) (b5 .args .count)) (b5 .args .sample-rate) (b5 .args .centres .now) z in (b5 .pre .0, (a .sizes, (b5 .pre .1 (b5 .args .image .now), (a .rate-ok, a .as-many ∙ sym (b5 .pre .1 (b5 .args .image .now))))))
 
 -- src/making.rt:177:9
 returns : tie.Need-returns

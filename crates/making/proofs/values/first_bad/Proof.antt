@@ -1,15 +1,12 @@
-use mathlib.Core.Path.{_≡_, refl, sym, ap, _∙_}
-use Prim.Native.Nat.{ℕ, _≤_, _-_, _+_, _*_, _<_, max}
+use mathlib.Core.Path.{_≡_, refl, sym, _∙_}
+use Prim.Native.Nat.{_≤_, _-_}
 use native.Mathlib.Omega.{arith}
 use lib.ListN.{length}
-use mathlib.Core.List.{List}
 use Rattle.making.specs.Views.{viewed}
-use mathlib.Core.Bool.{true}
 use borrow.Author.Tests.{not-true, not-false}
 use Rattle.wire.specs.Parse.{Refusal}
-use Rattle.making.specs.Making.{all, sizesOk, askValues}
-use Rattle.making.specs.Views.{formed}
-use Rattle.making.proofs.ViewLaws.{rest, values-go, values-no, values-end, all-here, all-later}
+use Rattle.making.specs.Making.{askValues}
+use Rattle.making.proofs.ViewLaws.{rest, values-go, values-no, values-end}
 use borrow.Author.Needs.{needs}
 use Rattle.making.proofs.values.first_bad.Statement.{statement}
 use Rattle.making.proofs.values.first_bad.Tie as tie
@@ -18,16 +15,14 @@ use Rattle.making.proofs.values.first_bad.Lts as lts
 use Rattle.making.proofs.values.values_ok.Reads as values-ok-reads
 
 abbrev Inv-loop : tie.InvT-loop
-Inv-loop s count views i₀ i = (i ≤ count) × (all sizesOk (rest s views i count) ≡ true) × (all formed (rest s views i count) ≡ true) × ((r : Refusal) → askValues i (rest s views i count) r ≡ askValues 0 (viewed s views count) r)
+Inv-loop s count views i₀ i = (i ≤ count) × ((r : Refusal) → askValues i (rest s views i count) r ≡ askValues 0 (viewed s views count) r)
 
 abbrev μ-loop : tie.MeasureT-loop
 μ-loop s count views i₀ i = count - i
 
 -- src/values.rt:92:5
 loop-holds : tie.Need-loop-holds Inv-loop μ-loop
-loop-holds c =
-    let b1 = c .before in
-    (omega arith, b1 .pre .1 .0, b1 .pre .1 .1, λ r. refl)
+loop-holds c = (omega arith, λ r. refl)
 
 -- src/values.rt:93:17
 mul-v : tie.Need-mul-v Inv-loop μ-loop
@@ -39,11 +34,7 @@ array-copy-out-v c = search needs
 
 -- src/values.rt:94:13
 values-ok-requires : tie.Need-values-ok-requires Inv-loop μ-loop
-values-ok-requires c κs =
-    let b1 = c .before in
-    let b2 = b1 .before in
-    let b4 = b2 .before .before in
-    let len : length (b4 .args .t2) ≡ 16 = search needs in (all-here (b4 .args .s .now) (b4 .args .t2) (b2 .loop .i) (b4 .args .count) (omega arith) (b1 .loop-test .taken) sizesOk (b2 .loop .inv .1), all-here (b4 .args .s .now) (b4 .args .t2) (b2 .loop .i) (b4 .args .count) (omega arith) (b1 .loop-test .taken) formed (b2 .loop .inv .2))
+values-ok-requires c κs = search needs
 
 -- src/values.rt:95:13
 returns : tie.Need-returns Inv-loop μ-loop
@@ -52,7 +43,7 @@ returns c =
     let b3 = b1 .before .before in
     let b4 = b3 .before in
     let b6 = b4 .before .before in
-    let len : length (b6 .args .t2) ≡ 16 = search needs in λ r. sym (sym (b4 .loop .inv .3 r) ∙ values-no (b6 .args .s .now) (b6 .args .t2) (b4 .loop .i) (b6 .args .count) (omega arith) (b3 .loop-test .taken) r (sym (b1 .values-ok .ensures) ∙ not-true _ (c .if1 .taken)))
+    let len : length (b6 .args .t2) ≡ 16 = search needs in λ r. sym (sym (b4 .loop .inv .1 r) ∙ values-no (b6 .args .s .now) (b6 .args .t2) (b4 .loop .i) (b6 .args .count) (omega arith) (b3 .loop-test .taken) r (sym (b1 .values-ok .ensures) ∙ not-true _ (c .if1 .taken)))
 
 -- src/values.rt:97:9
 add-i : tie.Need-add-i Inv-loop μ-loop
@@ -69,14 +60,14 @@ loop-again c =
     let b3 = b1 .before .before in
     let b4 = b3 .before in
     let b6 = b4 .before .before in
-    let len : length (b6 .args .t2) ≡ 16 = search needs in (omega arith, all-later (b6 .args .s .now) (b6 .args .t2) (b4 .loop .i) (b6 .args .count) (omega arith) (b3 .loop-test .taken) sizesOk (b4 .loop .inv .1), all-later (b6 .args .s .now) (b6 .args .t2) (b4 .loop .i) (b6 .args .count) (omega arith) (b3 .loop-test .taken) formed (b4 .loop .inv .2), λ r. sym (values-go (b6 .args .s .now) (b6 .args .t2) (b4 .loop .i) (b6 .args .count) (omega arith) (b3 .loop-test .taken) r (sym (b1 .values-ok .ensures) ∙ not-false _ (c .if1 .left))) ∙ b4 .loop .inv .3 r)
+    let len : length (b6 .args .t2) ≡ 16 = search needs in (omega arith, λ r. sym (values-go (b6 .args .s .now) (b6 .args .t2) (b4 .loop .i) (b6 .args .count) (omega arith) (b3 .loop-test .taken) r (sym (b1 .values-ok .ensures) ∙ not-false _ (c .if1 .left))) ∙ b4 .loop .inv .1 r)
 
 -- src/values.rt:87:1
 returns-2 : tie.Need-returns-2 Inv-loop μ-loop
 returns-2 c =
     let b1 = c .before in
     let b3 = b1 .before .before in
-    λ r. sym (sym (b1 .loop .inv .3 r) ∙ values-end (b3 .args .s .now) (b3 .args .t2) (b1 .loop .i) (b3 .args .count) (c .loop-test .left) r)
+    λ r. sym (sym (b1 .loop .inv .1 r) ∙ values-end (b3 .args .s .now) (b3 .args .t2) (b1 .loop .i) (b3 .args .count) (c .loop-test .left) r)
 
 pub first-bad-spec : {M : Type 1} → statement M
 first-bad-spec =

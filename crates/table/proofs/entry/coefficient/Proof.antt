@@ -7,7 +7,7 @@ use Rattle.table.proofs.entry.coefficient.Statement.{statement}
 use Rattle.table.proofs.entry.coefficient.Tie as tie
 use Rattle.table.proofs.entry.coefficient.Reads as reads
 use Rattle.table.proofs.entry.coefficient.Lts as lts
-use Rattle.table.proofs.entry.coefficient_word.Reads as coefficient-word-reads
+use Rattle.table.proofs.entry.nth_coefficient.Reads as nth-coefficient-reads
 
 -- src/entry.rt:153:18
 cast-width : tie.Need-cast-width
@@ -35,8 +35,8 @@ returns-2 c =
     sym (coefficient-past (b6 .args .s .now) (b6 .args .v) _ _ (b1 .if1 .left) (c .if2 .taken))
 
 -- src/entry.rt:161:9
-coefficient-word-requires : tie.Need-coefficient-word-requires
-coefficient-word-requires c κs = search needs
+nth-coefficient-requires : tie.Need-nth-coefficient-requires
+nth-coefficient-requires c κs = search needs
 
 -- src/entry.rt:161:9
 returns-3 : tie.Need-returns-3
@@ -45,7 +45,7 @@ returns-3 c =
     let b2 = b1 .before in
     let b3 = b2 .before in
     let b8 = b3 .before .before .before .before .before in
-    c .coefficient-word .ensures ∙ sym (coefficient-first (b8 .args .s .now) (b8 .args .v) _ _ (b3 .if1 .left) (b2 .if2 .left) (b1 .if3 .taken))
+    c .nth-coefficient .ensures ∙ sym (coefficient-first (b8 .args .s .now) (b8 .args .v) _ _ (b3 .if1 .left) (b2 .if2 .left) (b1 .if3 .taken))
 
 -- src/entry.rt:163:9
 cast-if4 : tie.Need-cast-if4
@@ -61,24 +61,24 @@ returns-4 c =
     sym (coefficient-short (b9 .args .s .now) (b9 .args .v) _ _ (b4 .if1 .left) (b3 .if2 .left) (b2 .if3 .left) (c .if4 .taken))
 
 -- src/entry.rt:166:28
-mul-coefficient-word : tie.Need-mul-coefficient-word
-mul-coefficient-word c =
+mul-nth-coefficient : tie.Need-mul-nth-coefficient
+mul-nth-coefficient c =
     let b1 = c .before in
     let b9 = b1 .before .before .before .before .before .before .before .before in
     let w : b9 .args .v .«m_partials» + b9 .args .v .«j_noise» < 2 ^ 32 = omega (arith, b1 .struct-known4 .given) in
     omega (arith, product-fits (b9 .args .channel) (b9 .args .v .«m_partials» + b9 .args .v .«j_noise») (b9 .fits .channel .fits) w)
 
 -- src/entry.rt:166:28
-add-coefficient-word : tie.Need-add-coefficient-word
-add-coefficient-word c =
+add-nth-coefficient : tie.Need-add-nth-coefficient
+add-nth-coefficient c =
     let b1 = c .before in
     let b9 = b1 .before .before .before .before .before .before .before .before in
     let w : b9 .args .v .«m_partials» + b9 .args .v .«j_noise» < 2 ^ 32 = omega (arith, b1 .struct-known4 .given) in
     omega (arith, product-fits (b9 .args .channel) (b9 .args .v .«m_partials» + b9 .args .v .«j_noise») (b9 .fits .channel .fits) w)
 
 -- src/entry.rt:166:5
-coefficient-word-requires-2 : tie.Need-coefficient-word-requires-2
-coefficient-word-requires-2 c κs = search needs
+nth-coefficient-requires-2 : tie.Need-nth-coefficient-requires-2
+nth-coefficient-requires-2 c κs = search needs
 
 -- src/entry.rt:150:1
 returns-5 : tie.Need-returns-5
@@ -86,7 +86,7 @@ returns-5 c =
     let b4 = c .before .before .before .before in
     let b5 = b4 .before in
     let b10 = b5 .before .before .before .before .before in
-    c .coefficient-word2 .ensures ∙ sym (coefficient-is (b10 .args .s .now) (b10 .args .v) _ _ (b5 .if1 .left) (b4 .if2 .left))
+    c .nth-coefficient2 .ensures ∙ sym (coefficient-is (b10 .args .s .now) (b10 .args .v) _ _ (b5 .if1 .left) (b4 .if2 .left))
 
 pub coefficient-spec : {M : Type 1} → statement M
 coefficient-spec =
@@ -97,11 +97,11 @@ coefficient-spec =
     add-width
     returns
     returns-2
-    coefficient-word-requires
+    nth-coefficient-requires
     returns-3
     cast-if4
     returns-4
-    mul-coefficient-word
-    add-coefficient-word
-    coefficient-word-requires-2
+    mul-nth-coefficient
+    add-nth-coefficient
+    nth-coefficient-requires-2
     returns-5)

@@ -1,10 +1,10 @@
 use mathlib.Core.Path.{sym, _∙_}
 use Rattle.table.proofs.WordLaws.{word-past, word-outside, word-at-index}
 use borrow.Author.Needs.{needs}
-use Rattle.table.proofs.entry.coefficient_word.Statement.{statement}
-use Rattle.table.proofs.entry.coefficient_word.Tie as tie
-use Rattle.table.proofs.entry.coefficient_word.Reads as reads
-use Rattle.table.proofs.entry.coefficient_word.Lts as lts
+use Rattle.table.proofs.entry.nth_coefficient.Statement.{statement}
+use Rattle.table.proofs.entry.nth_coefficient.Tie as tie
+use Rattle.table.proofs.entry.nth_coefficient.Reads as reads
+use Rattle.table.proofs.entry.nth_coefficient.Lts as lts
 use Rattle.table.proofs.bytes.word_or.Reads as word-or-reads
 
 -- src/entry.rt:139:9
@@ -41,7 +41,7 @@ returns-3 c =
     let b2 = c .before .before in
     c .word-or .ensures ∙ sym (word-at-index _ _ _ _ (b2 .if1 .left))
 
-pub coefficient-word-spec : {M : Type 1} → statement M
-coefficient-word-spec =
+pub nth-coefficient-spec : {M : Type 1} → statement M
+nth-coefficient-spec =
     tie.close
     (tie.spec cast-if1 returns returns-2 mul-word-or add-word-or word-or-requires returns-3)
