@@ -30,25 +30,17 @@ use Rattle.player.specs.declared.voice.State.{State}
 use Rattle.player.specs.declared.voice.Voice.{Voice}
 use Rattle.player.proofs.Loops.{both-true, every-at}
 use Rattle.player.proofs.QuestionLaws.{kept}
-use Rattle.player.proofs.ColumnLaws.{steps-as}
+use Rattle.player.proofs.ColumnLaws.{add-heard, steps-as}
 use Rattle.player.proofs.SoundLaws.{mixOf, facts, live-below}
 
 -- ---- what is stored as a term, added
 pub single-adds : (y coeff gain noiseGain makeup filtered : Float) → T (fits binary32 y) → y ⊕ singleTerm coeff gain noiseGain makeup filtered ≡ addNoiseSingle y coeff gain noiseGain makeup filtered
 unfolding singleTerm addNoiseSingle
-single-adds y coeff gain noiseGain makeup filtered h = go (ne coeff (nearest 0 1))
-  where
-    go : (t : Bool) → y ⊕ pick t (coeff ⊗ noiseGain ⊗ gain ⊗ makeup ⊗ filtered) minusZero ≡ pick t (y ⊕ coeff ⊗ noiseGain ⊗ gain ⊗ makeup ⊗ filtered) y
-    go true = refl
-    go false = add-minus-zero y h
+single-adds y coeff gain noiseGain makeup filtered h = add-heard y coeff (coeff ⊗ noiseGain ⊗ gain ⊗ makeup ⊗ filtered) h
 
 pub blend-adds : (y power noiseGain makeup filtered : Float) → T (fits binary32 y) → y ⊕ blendTerm power (sqrt power) noiseGain makeup filtered ≡ addNoiseBlend y power noiseGain makeup filtered
 unfolding blendTerm addNoiseBlend
-blend-adds y power noiseGain makeup filtered h = go (ne power (nearest 0 1))
-  where
-    go : (t : Bool) → y ⊕ pick t (sqrt power ⊗ noiseGain ⊗ makeup ⊗ filtered) minusZero ≡ pick t (y ⊕ sqrt power ⊗ noiseGain ⊗ makeup ⊗ filtered) y
-    go true = refl
-    go false = add-minus-zero y h
+blend-adds y power noiseGain makeup filtered h = add-heard y power (sqrt power ⊗ noiseGain ⊗ makeup ⊗ filtered) h
 
 -- the same, from what the loops over the powers, the roots and the terms leave at a place
 pub stored-adds : (y term root power sum noiseGain makeup filtered : Float) → T (fits binary32 y) → term ≡ blendTerm power root noiseGain makeup filtered → root ≡ sqrt power → power ≡ sum
@@ -147,11 +139,10 @@ module _ (v : Voice) (K : keepsRules v ≡ true) where
         ap (λ (m : Mix). bandStep v f0 g x (band n) m) (mixed-is f0 g ms y n (omega arith))
         ∙ ap (λ (s : BiquadState). mixOf (set W (band n) (tickAt W n .state)) (noiseTerm v f0 g (band n) Y (tickOf s x (getD (v .bands) (band n) noCoeffs) .y))) (off-written band moveBand noState ms n (band n) (λ i k e. let r = rising i n k (omega arith) in omega arith))
 
-  -- LAW: the sample is the partials' sum and what each live band adds, ticked from its memory before the sample
-  pub sample-is : (s : State) (f0 : Float) (g : List Float)
-      → mixAt v s f0 g .sample ≡ steps (λ l y. noiseTerm v f0 g (getD (v .live) l 0) y (tickOf (getD (s .memories) (getD (v .live) l 0) noState) (noiseIn (s .rng)) (getD (v .bands) (getD (v .live) l 0) noCoeffs) .y)) (partialSum v f0 g (s .phases)) (v .«live_count»)
-  unfolding mixAt
-  sample-is s f0 g = ap (λ (m : Mix). m .sample) (mixed-is (noiseIn (s .rng)) f0 g (s .memories) (partialSum v f0 g (s .phases)) (v .«live_count») (omega arith))
+  -- LAW: the sample is y and what each live band adds to it, ticked from its memory before the sample
+  pub sample-is : (r : Rng) (ms : List BiquadState) (f0 : Float) (g : List Float) (y : Float)
+      → mixed v f0 g (noiseIn r) (mixOf ms y) (v .«live_count») .sample ≡ steps (λ l y. noiseTerm v f0 g (getD (v .live) l 0) y (tickOf (getD ms (getD (v .live) l 0) noState) (noiseIn r) (getD (v .bands) (getD (v .live) l 0) noCoeffs) .y)) y (v .«live_count»)
+  sample-is r ms f0 g y = ap (λ (m : Mix). m .sample) (mixed-is (noiseIn r) f0 g ms y (v .«live_count») (omega arith))
 
   -- LAW: a sample keeps the number of memories
   pub length-memories : (r : Rng) (ms : List BiquadState) → length (movedMemories v r ms) ≡ length ms
@@ -199,12 +190,12 @@ module _ (v : Voice) (K : keepsRules v ≡ true) where
     filtered-at l h = ap (λ (t : Tick). t .y) (ticked-at l h)
 
   -- ---- the sum of a sample, where the columns are those of f0 and g
-  module _ (s : State) (f0 : Float) (g : List Float) (sides : Sides) (blend k n : ℕ) (noiseGain : Float) (rows makeup ys : List Float) (rowCount : ℕ)
+  module _ (r : Rng) (ms : List BiquadState) (f0 : Float) (g : List Float) (sides : Sides) (blend k n : ℕ) (noiseGain : Float) (rows makeup ys : List Float) (rowCount : ℕ)
       (es : sides ≡ sidesAt v f0) (eb : blend ≡ v .blend) (ek : k ≡ v .k) (en : n ≡ v .«live_count») (eg : noiseGain ≡ between (v .«noise_gain») sides)
       (single : eqb blend 0 ≡ true → 0 < rowCount) (blended : eqb blend 0 ≡ false → k ≤ rowCount)
       (R : FilledRows rows (λ q l. noiseRow (v .noise) sides q (getD (v .live) l 0)) rowCount n)
       (M : Filled makeup (λ l. getD (v .compensation) (getD (v .live) l 0) nan) n)
-      (Y : (l : ℕ) → l < v .«live_count» → getD ys l nan ≡ tickOf (getD (s .memories) (getD (v .live) l 0) noState) (noiseIn (s .rng)) (getD (v .bands) (getD (v .live) l 0) noCoeffs) .y) where
+      (Y : (l : ℕ) → l < v .«live_count» → getD ys l nan ≡ tickOf (getD ms (getD (v .live) l 0) noState) (noiseIn r) (getD (v .bands) (getD (v .live) l 0) noCoeffs) .y) where
     abbrev termOf : ℕ → Float → Float
     termOf l y =
         pick (eqb blend 0) (addNoiseSingle y (getD rows l nan) (getD g 0 nan) noiseGain (getD makeup l nan) (getD ys l nan))
@@ -218,25 +209,24 @@ module _ (v : Voice) (K : keepsRules v ≡ true) where
     unfolding blendPower
     power-is l h p = steps-as _ _ (nearest 0 1) k (λ q a y. ap (λ (z : Float). y ⊕ (getD g q nan ⊗ z) ⊗ (getD g q nan ⊗ z)) (R .at q l (omega arith) h))
 
-    term-is : (l : ℕ) → l < n → (y : Float) → termOf l y ≡ noiseTerm v f0 g (band l) y (tickAt (noiseIn (s .rng)) (s .memories) l .y)
+    term-is : (l : ℕ) → l < n → (y : Float) → termOf l y ≡ noiseTerm v f0 g (band l) y (tickAt (noiseIn r) ms l .y)
     unfolding noiseTerm
     term-is l h y = go (eqb blend 0) refl ∙ rw (eb, ek, eg, es)
       where
-        filtered : getD ys l nan ≡ tickAt (noiseIn (s .rng)) (s .memories) l .y
+        filtered : getD ys l nan ≡ tickAt (noiseIn r) ms l .y
         filtered = Y l (omega arith)
 
         go : (t : Bool) → eqb blend 0 ≡ t
             → pick t (addNoiseSingle y (getD rows l nan) (getD g 0 nan) noiseGain (getD makeup l nan) (getD ys l nan)) (addNoiseBlend y (blendPower (λ q. getD rows (q * 32 + l) nan) g k) noiseGain (getD makeup l nan) (getD ys l nan))
-            ≡ pick (eqb blend 0) (addNoiseSingle y (noiseRow (v .noise) sides 0 (band l)) (getD g 0 nan) noiseGain (getD (v .compensation) (band l) nan) (tickAt (noiseIn (s .rng)) (s .memories) l .y))
-            (addNoiseBlend y (blendPower (λ q. noiseRow (v .noise) sides q (band l)) g k) noiseGain (getD (v .compensation) (band l) nan) (tickAt (noiseIn (s .rng)) (s .memories) l .y))
+            ≡ pick (eqb blend 0) (addNoiseSingle y (noiseRow (v .noise) sides 0 (band l)) (getD g 0 nan) noiseGain (getD (v .compensation) (band l) nan) (tickAt (noiseIn r) ms l .y))
+            (addNoiseBlend y (blendPower (λ q. noiseRow (v .noise) sides q (band l)) g k) noiseGain (getD (v .compensation) (band l) nan) (tickAt (noiseIn r) ms l .y))
         go true e = rw (e, row-is l h (single e), M .at l h, filtered)
         go false e = rw (e, power-is l h (blended e), M .at l h, filtered)
 
     -- LAW: what `noise_sum` ensures is the sample
-    pub sum-is-sample : (y r : Float) → y ≡ partialSum v f0 g (s .phases) → r ≡ steps termOf y n → r ≡ mixAt v s f0 g .sample
-    sum-is-sample y r ey er =
-        er
-        ∙ steps-as termOf (λ l y. noiseTerm v f0 g (band l) y (tickAt (noiseIn (s .rng)) (s .memories) l .y)) y n term-is
-        ∙ ap (λ (z : Float). steps (λ l y. noiseTerm v f0 g (band l) y (tickAt (noiseIn (s .rng)) (s .memories) l .y)) z n) ey
-        ∙ ap (λ (m : ℕ). steps (λ l y. noiseTerm v f0 g (band l) y (tickAt (noiseIn (s .rng)) (s .memories) l .y)) (partialSum v f0 g (s .phases)) m) en
-        ∙ sym (sample-is s f0 g)
+    pub sum-is-sample : (y z : Float) → z ≡ steps termOf y n → z ≡ mixed v f0 g (noiseIn r) (mixOf ms y) (v .«live_count») .sample
+    sum-is-sample y z ez =
+        ez
+        ∙ steps-as termOf (λ l y. noiseTerm v f0 g (band l) y (tickAt (noiseIn r) ms l .y)) y n term-is
+        ∙ ap (λ (m : ℕ). steps (λ l y. noiseTerm v f0 g (band l) y (tickAt (noiseIn r) ms l .y)) y m) en
+        ∙ sym (sample-is r ms f0 g y)

@@ -1,117 +1,164 @@
--- A channel's samples over columns: from sample to sample the columns hold the state of the definitions, and each sample is `sound`'s.
-use mathlib.Core.Path.{_≡_, refl, sym, ap, _∙_, subst}
+-- A channel's two passes put together: the state after each sample, and what is heard; and the voices of each pass beside the whole one.
+use mathlib.Core.Path.{_≡_, refl, sym, ap, _∙_}
 use mathlib.Core.List.{List}
-use mathlib.Core.Bool.{Bool, true, false}
-use Prim.Native.Nat.{ℕ, _+_, _*_, _≤_, _<_}
+use mathlib.Core.Bool.{Bool, true, false, _&&_}
+use Prim.Native.Nat.{ℕ, zero, suc, _+_, _≤_, _<_}
 use native.Mathlib.Omega.{arith}
-use lib.ListN.{length, getD, set}
-use lib.Dec.{T, eqb}
-use lib.Ieee.{Float, nan, binary32, eq, fits}
+use lib.ListN.{length, getD, replicate, getD-replicate}
+use lib.Dec.{leb, ltb, eqb}
+use lib.Ieee.{Float, nan, le, round}
+use borrow.Author.Tests.{eqb-true, leb-true}
 use Rattle.wire.specs.Parse.{pick}
-use Rattle.float.specs.Range.{Within}
-use Rattle.float.specs.F32.{_⊗_, nearest}
-use Rattle.player.specs.Lists.{Filled, mapTo, steps}
-use Rattle.filters.specs.Wave.{sineOf}
-use Rattle.player.specs.Phase.{advanceOf}
+use Rattle.float.specs.F32.{nearest}
+use Rattle.player.specs.Lists.{mapTo, upTo, steps, every}
 use Rattle.player.specs.Input.{cleaned}
-use Rattle.filters.specs.Rng.{nextBipolar}
-use Rattle.player.specs.Voice.{phasesOk, keepsRules}
-use Rattle.player.specs.Sound.{sidesAt, blendCoeff, partialSum, noiseIn, movedPhases, movedMemories, movedRng, addNoiseSingle, addNoiseBlend, blendPower, sound, moved}
-use Rattle.player.specs.Block.{stateAt}
-use Rattle.player.specs.Columns.{Memories, Coeffs, Ticked, stateOfColumns}
-use Rattle.player.specs.Tuning.{added}
+use Rattle.player.specs.Voice.{pitchOk, stretchOk, rateOk, phasesOk, countsOk, entriesOk, liveOk, bandsAscend, pitchesAscend, keepsRules}
+use Rattle.player.specs.Sound.{sidesAt, movedPhases, movedMemories, movedRng, partialTerm, partialSum, noiseTerm, bandStep, mixed, mixAt, sound, moved}
+use Rattle.player.specs.Block.{stateAt, channelOut}
+use Rattle.player.specs.Parts.{memoriesOf, voiceOf, stateOf, toneVoice, noiseVoice}
+use Rattle.player.specs.Passes.{phasesAt, rngAt, memoriesBefore, tonesOut, noisy, noisesOut}
 use Rattle.filters.specs.declared.biquad.BiquadState.{BiquadState}
-use Rattle.player.specs.declared.fixed.Fixed.{Fixed}
-use Rattle.filters.specs.declared.rng.Bipolar.{Bipolar}
 use Rattle.filters.specs.declared.rng.Rng.{Rng}
-use Rattle.player.specs.declared.tuning.Tuning.{Tuning}
+use Rattle.player.specs.declared.voice.Setting.{Setting}
 use Rattle.player.specs.declared.voice.State.{State}
 use Rattle.player.specs.declared.voice.Voice.{Voice}
-use Rattle.player.proofs.SoundLaws.{FixedOf, stateOf, facts, state-again}
-use Rattle.player.proofs.ToneLaws.{TunedTo, TunedVoice, tuned-voice, stays, untuned-none, moved-phases, phases-kept, tone-sound}
-use Rattle.player.proofs.BandColumns.{AgreeOff, agree-same, agree-moved, length-memories, memories-moved, filtered-at, scattered, sum-is-sample}
+use Rattle.player.proofs.Loops.{both-true, at-every, steps-same, length-upTo, upTo-at, upTo-as, upTo-same}
+use Rattle.player.proofs.QuestionLaws.{Kept, kept}
+use Rattle.player.proofs.SoundLaws.{still, silent}
 
-module _ (v : Voice) (x : Fixed) (freq : ℕ → Float) where
-  -- before sample i the columns hold the state of the definitions, and are tuned to every frequency that compares equal to t's
-  pub record Going (i : ℕ) (z1 z2 phases : List Float) (rng : Rng) (incs fades rows bandRows : List Float) (t : Tuning) : Type 0 where
-    pub phases-are : phases ≡ stateAt v freq i .phases
-    pub rng-is : rng ≡ stateAt v freq i .rng
-    pub memories-are : Memories z1 z2 (stateAt v freq i .memories) (v .live) (v .«live_count»)
-    pub long : length (stateAt v freq i .memories) ≡ 16
-    pub off : AgreeOff (stateAt v freq i .memories) (v .state .memories) (v .live) (v .«live_count»)
-    pub ok : phasesOk phases (v .m) ≡ true
-    pub tuned : (f : Float) → T (fits binary32 f) → Within 20000 1 f → eq f (t .f0) ≡ true → TunedTo v x f incs fades rows bandRows t
-
-module _ (v : Voice) (K : keepsRules v ≡ true) (N : eqb (v .count) 0 ≡ false) (x : Fixed) (X : FixedOf v x) (freq : ℕ → Float) (g : ℕ → List Float) where
-  pub going-first : (z1 z2 incs fades rows bandRows : List Float) (t : Tuning) → Memories z1 z2 (v .state .memories) (v .live) (v .«live_count») → length (v .state .memories) ≡ 16 → t .f0 ≡ nan
-      → Going v x freq 0 z1 z2 (v .state .phases) (v .state .rng) incs fades rows bandRows t
-  unfolding stateAt steps
-  going-first z1 z2 incs fades rows bandRows t M h e = record {
-    phases-are = refl;
-    rng-is = refl;
-    memories-are = M;
-    long = h;
-    off = agree-same (v .state .memories) (v .live) (v .«live_count»);
-    ok = facts v K .phases;
-    tuned = λ f F W q. absurd (untuned-none f (ap (λ (z : Float). eq f z) (sym e) ∙ q));
-  }
-
-  -- LAW: at the end the memories go back to their places
-  pub going-last : (i : ℕ) (z1 z2 phases : List Float) (rng : Rng) (incs fades rows bandRows : List Float) (t : Tuning) (ms : List BiquadState) → Going v x freq i z1 z2 phases rng incs fades rows bandRows t → length (v .state .memories) ≡ 16
-      → ms ≡ steps (λ l ms. set ms (getD (v .live) l 0) (stateOfColumns z1 z2 l)) (v .state .memories) (v .«live_count») → stateOf phases ms rng ≡ stateAt v freq i
-  going-last i z1 z2 phases rng incs fades rows bandRows t ms G h e =
-      let m : ms ≡ stateAt v freq i .memories = e ∙ scattered v K z1 z2 (stateAt v freq i .memories) (v .state .memories) (G .long) h (G .off) (G .memories-are) in
-      ap (λ (z : List Float). stateOf z ms rng) (G .phases-are) ∙ ap (λ (z : List BiquadState). stateOf (stateAt v freq i .phases) z rng) m ∙ ap (λ (z : Rng). stateOf (stateAt v freq i .phases) (stateAt v freq i .memories) z) (G .rng-is)
+module _ (v : Voice) (freq : ℕ → Float) (g : ℕ → List Float) where
+  -- LAW: the state's parts move each by themselves
+  pub state-is : eqb (v .count) 0 ≡ false → (i : ℕ) → stateAt v freq i ≡ record { phases = phasesAt v freq i; memories = memoriesBefore v i; rng = rngAt v i }
+  unfolding stateAt phasesAt memoriesBefore rngAt steps moved
+  state-is N zero = refl
+  state-is N (suc i) = ap (λ (s : State). moved v (cleaned (freq i)) s) (state-is N i) ∙ rw N
 
   -- one sample
-  module _ (i : ℕ) (z1 z2 phases : List Float) (rng : Rng) (incs₀ fades₀ rows₀ bandRows₀ : List Float) (t₀ : Tuning) (G : Going v x freq i z1 z2 phases rng incs₀ fades₀ rows₀ bandRows₀ t₀)
-      (f0 : Float) (ef : f0 ≡ cleaned (freq i)) (F : T (fits binary32 f0)) (W : Within 20000 1 f0) (incs fades rows bandRows : List Float) (t : Tuning) (U : TunedTo v x f0 incs fades rows bandRows t)
-      (qs : List Float) (Q : qs ≡ mapTo (λ i p. advanceOf p (getD incs i nan)) 0 (v .m) phases)
-      (next : Bipolar) (en : (next .value ≡ noiseIn rng) × (next .rng ≡ pick (eqb (v .«live_count») 0) rng (nextBipolar rng .rng)))
-      (ys w1 w2 b0 b1 b2 a1 a2 : List Float) (C : Coeffs b0 b1 b2 a1 a2 (v .bands) (v .live) (v .«live_count»)) (K1 : Ticked ys w1 w2 z1 z2 b0 b1 b2 a1 a2 (next .value) (v .«live_count»)) where
-    abbrev S : State
-    S = stateAt v freq i
+  heard : eqb (v .count) 0 ≡ false → (n i : ℕ) → i < n → noisy v freq g i (getD (tonesOut v freq g n) i nan) ≡ sound v (stateAt v freq i) (cleaned (freq i)) (g i)
+  unfolding noisy tonesOut sound mixAt
+  heard N n i l =
+      ap (λ (z : Float). noisy v freq g i z) (upTo-at (λ i. partialSum v (cleaned (freq i)) (g i) (phasesAt v freq i)) n i nan l)
+      ∙ sym (ap (λ (s : State). sound v s (cleaned (freq i)) (g i)) (state-is N i) ∙ rw N)
 
-    heard-noise : next .value ≡ noiseIn (S .rng)
-    heard-noise = en .0 ∙ ap (λ (z : Rng). noiseIn z) (G .rng-is)
+  -- LAW: what is heard is what the second pass makes of the first's samples
+  pub out-is : eqb (v .count) 0 ≡ false → (n : ℕ) → noisesOut v freq g (tonesOut v freq g n) n ≡ channelOut v freq g n
+  unfolding noisesOut channelOut
+  out-is N n = upTo-as _ _ n (λ i l. heard N n i l)
 
-    after : moved v (cleaned (freq i)) S ≡ record { phases = movedPhases v f0 (S .phases); memories = movedMemories v (S .rng) (S .memories); rng = movedRng v (S .rng) }
-    unfolding moved
-    after = ap (λ (z : Float). moved v z S) (sym ef) ∙ rw N
+  pub length-tones : (n : ℕ) → length (tonesOut v freq g n) ≡ n
+  unfolding tonesOut
+  length-tones n = length-upTo (λ i. partialSum v (cleaned (freq i)) (g i) (phasesAt v freq i)) n
 
-    ends : stateAt v freq (i + 1) ≡ record { phases = movedPhases v f0 (S .phases); memories = movedMemories v (S .rng) (S .memories); rng = movedRng v (S .rng) }
-    ends = sym (state-again v freq g i S (moved v (cleaned (freq i)) S) refl refl) ∙ after
+  -- ---- a voice with no live band: the second pass changes nothing
+  pub same-rng : v .«live_count» ≡ 0 → (n : ℕ) → v .state .rng ≡ rngAt v n
+  unfolding rngAt movedRng
+  same-rng e n = rw e (sym (steps-same (v .state .rng) n))
 
-    held : TunedVoice v f0 incs fades rows bandRows t
-    held = tuned-voice v x X incs fades rows bandRows t f0 U
+  pub same-memories : v .«live_count» ≡ 0 → (n : ℕ) → v .state .memories ≡ memoriesBefore v n
+  unfolding memoriesBefore movedMemories steps
+  same-memories e n = rw e (sym (steps-same (v .state .memories) n))
 
-    -- LAW: the columns hold the state after the sample
-    pub going-again : Going v x freq (i + 1) w1 w2 qs (next .rng) incs fades rows bandRows t
-    unfolding movedRng
-    going-again = record {
-      phases-are = moved-phases v f0 incs fades rows bandRows t held phases qs (G .ok) Q ∙ ap (λ (z : List Float). movedPhases v f0 z) (G .phases-are) ∙ sym (ap (λ (s : State). s .phases) ends);
-      rng-is = en .1 ∙ ap (λ (z : Rng). pick (eqb (v .«live_count») 0) z (nextBipolar z .rng)) (G .rng-is) ∙ sym (ap (λ (s : State). s .rng) ends);
-      memories-are = subst (λ (s : State). Memories w1 w2 (s .memories) (v .live) (v .«live_count»)) (sym ends) (memories-moved v K (S .rng) (S .memories) (next .value) ys w1 w2 z1 z2 b0 b1 b2 a1 a2 heard-noise (G .memories-are) C K1 (G .long));
-      long = ap (λ (s : State). length (s .memories)) ends ∙ length-memories v K (S .rng) (S .memories) ∙ G .long;
-      off = subst (λ (s : State). AgreeOff (s .memories) (v .state .memories) (v .live) (v .«live_count»)) (sym ends) (agree-moved v K (S .rng) (S .memories) (v .state .memories) (G .off));
-      ok = phases-kept v f0 incs fades rows bandRows t held phases qs (G .ok) Q;
-      tuned = stays v x X incs fades rows bandRows t f0 F W U;
-    }
+  pub same-out : v .«live_count» ≡ 0 → (ys : List Float) (n : ℕ) → length ys ≡ n → ys ≡ noisesOut v freq g ys n
+  unfolding noisesOut noisy mixed steps
+  same-out e ys n h = sym (upTo-same ys nan n h) ∙ rw e
 
-    -- LAW: what is stored is the sample
-    pub sounds : (h sines makeup : List Float) (tone y : Float) → h ≡ g i → Filled sines (λ i. sineOf (getD qs i nan)) (v .m) → Filled makeup (λ l. getD (v .compensation) (getD (v .live) l 0) nan) (v .«live_count»)
-        → tone ≡ steps (λ i y. pick (eqb (v .blend) 0) (added y (getD rows i nan) (getD rows i nan ⊗ t .mainlobe ⊗ getD fades i nan ⊗ getD h 0 nan ⊗ getD sines i nan)) (added y (blendCoeff (λ q. getD rows (q * 32 + i) nan) h (v .k)) (blendCoeff (λ q. getD rows (q * 32 + i) nan) h (v .k) ⊗ t .mainlobe ⊗ getD fades i nan ⊗ getD sines i nan))) (nearest 0 1) (v .m)
-        → y ≡ steps (λ l y. pick (eqb (v .blend) 0) (addNoiseSingle y (getD bandRows l nan) (getD h 0 nan) (t .«noise_gain») (getD makeup l nan) (getD ys l nan)) (addNoiseBlend y (blendPower (λ q. getD bandRows (q * 32 + l) nan) h (v .k)) (t .«noise_gain») (getD makeup l nan) (getD ys l nan))) tone (v .«live_count»)
-        → y ≡ sound v S (cleaned (freq i)) (g i)
-    unfolding sound
-    sounds h sines makeup tone y eh A M et ey =
-        let s : tone ≡ partialSum v f0 h (S .phases) = tone-sound v f0 incs fades rows bandRows t held phases qs (G .ok) Q h sines A tone et ∙ ap (λ (z : List Float). partialSum v f0 h z) (G .phases-are) in
-        let m = sum-is-sample v K S f0 h (sidesAt v f0) (v .blend) (v .k) (v .«live_count») (t .«noise_gain») bandRows makeup ys (pick (eqb (v .blend) 0) 1 (v .k)) refl refl refl refl (held .noise-gain) one-row (λ b. all-rows b) (held .noise-rows-are) M
-        (filtered-at v K (S .rng) (S .memories) (next .value) ys w1 w2 z1 z2 b0 b1 b2 a1 a2 heard-noise (G .memories-are) C K1) tone y s ey in
-        m ∙ rw (N, ef, eh)
-      where
-        one-row : eqb (v .blend) 0 ≡ true → 0 < pick (eqb (v .blend) 0) 1 (v .k)
-        one-row b = rw b (omega arith)
+  -- ---- a voice with no partials: the first pass is silence
+  pub same-phases : v .m ≡ 0 → (n : ℕ) → v .state .phases ≡ phasesAt v freq n
+  unfolding phasesAt movedPhases mapTo
+  same-phases e n = rw e (sym (steps-same (v .state .phases) n))
 
-        all-rows : eqb (v .blend) 0 ≡ false → v .k ≤ pick (eqb (v .blend) 0) 1 (v .k)
-        all-rows b = rw b (omega arith)
+  pub no-tones : v .m ≡ 0 → (n : ℕ) → upTo (λ i. nearest 0 1) n ≡ tonesOut v freq g n
+  unfolding tonesOut partialSum steps
+  no-tones e n = rw e
+
+-- ---- the voices of the two passes
+module _ (set : Setting) (live : List ℕ) (pitches stretches mainlobes noiseGains partials noise bands compensation phases memories : List Float) (rng : Rng) (freq : ℕ → Float) (g : ℕ → List Float) (n : ℕ) where
+  abbrev whole : Voice
+  whole = voiceOf set live pitches stretches mainlobes noiseGains partials noise bands compensation (stateOf phases memories rng)
+
+  abbrev tonal : Voice
+  tonal = toneVoice set pitches stretches mainlobes partials phases
+
+  abbrev noisal : Voice
+  noisal = noiseVoice set live pitches noiseGains noise bands compensation memories rng
+
+  pub tonal-phases : phasesAt tonal freq n ≡ phasesAt whole freq n
+  unfolding phasesAt movedPhases sidesAt
+  tonal-phases = refl
+
+  pub tonal-out : tonesOut tonal freq g n ≡ tonesOut whole freq g n
+  unfolding tonesOut phasesAt movedPhases partialSum partialTerm sidesAt
+  tonal-out = refl
+
+  pub noisal-rng : rngAt noisal n ≡ rngAt whole n
+  unfolding rngAt movedRng
+  noisal-rng = refl
+
+  pub noisal-memories : memoriesBefore noisal n ≡ memoriesBefore whole n
+  unfolding memoriesBefore movedMemories rngAt movedRng
+  noisal-memories = refl
+
+  pub noisal-out : (ys : List Float) → noisesOut noisal freq g ys n ≡ noisesOut whole freq g ys n
+  unfolding noisesOut noisy mixed bandStep noiseTerm sidesAt memoriesBefore movedMemories rngAt movedRng
+  noisal-out ys = refl
+
+  -- each keeps the rules that the whole voice keeps
+  counted : keepsRules whole ≡ true → (leb (set .count) 16 ≡ true) × (leb (set .m) 32 ≡ true) × (leb (set .j) 16 ≡ true) × (leb (set .k) 4 ≡ true) × (leb (set .«live_count») 16 ≡ true)
+  unfolding countsOk
+  counted K =
+      let p = both-true (leb (set .count) 16) (leb (set .m) 32 && (leb (set .j) 16 && (leb (set .k) 4 && leb (set .«live_count») 16))) (kept whole K .counts) in
+      let q = both-true (leb (set .m) 32) (leb (set .j) 16 && (leb (set .k) 4 && leb (set .«live_count») 16)) (p .1) in
+      let r = both-true (leb (set .j) 16) (leb (set .k) 4 && leb (set .«live_count») 16) (q .1) in
+      let s = both-true (leb (set .k) 4) (leb (set .«live_count») 16) (r .1) in
+      (p .0, q .0, r .0, s .0, s .1)
+
+  pub tonal-keeps : keepsRules whole ≡ true → keepsRules tonal ≡ true
+  unfolding keepsRules countsOk entriesOk liveOk steps
+  tonal-keeps K =
+      let k = kept whole K in
+      let c = counted K in
+      rw (c .0, c .1, c .3, k .entries, k .rate, k .phases)
+
+  pub noisal-keeps : keepsRules whole ≡ true → keepsRules noisal ≡ true
+  unfolding keepsRules countsOk entriesOk liveOk phasesOk steps round le
+  noisal-keeps K =
+      let k = kept whole K in
+      let c = counted K in
+      let e = both-true (every (λ i. pitchOk (getD pitches i nan)) (set .count)) (pitchesAscend pitches (set .count) && every (λ i. stretchOk (getD stretches i nan)) (set .count)) (k .entries) in
+      let a = both-true (pitchesAscend pitches (set .count)) (every (λ i. stretchOk (getD stretches i nan)) (set .count)) (e .1) in
+      let s : every (λ i. stretchOk (getD (replicate 16 (nearest 1 1)) i nan)) (set .count) ≡ true =
+      let h : set .count ≤ 16 = leb-true _ _ (c .0) in
+      at-every (λ i. stretchOk (getD (replicate 16 (nearest 1 1)) i nan)) (set .count) (λ i l. ap (λ (z : Float). stretchOk z) (getD-replicate 16 i (nearest 1 1) nan (omega (arith, h, l)))) in
+      rw (c .0, c .2, c .3, c .4, e .0, a .0, s, k .rate, k .live)
+
+  -- ---- what a channel leaves: the state, and the samples
+  abbrev pub Ends : Rng → List Float → List Float → List Float → Type 0
+  Ends r ps ms ys =
+      ((r ≡ stateAt whole freq n .rng) × (ps ≡ stateAt whole freq n .phases) × (memoriesOf ms ≡ stateAt whole freq n .memories) × (length ms ≡ 32)) × (ys ≡ channelOut whole freq g n)
+
+  -- LAW: no entry: nothing moves, and it is silent
+  pub ends-still : eqb (set .count) 0 ≡ true → length memories ≡ 32 → (ys : List Float) → ys ≡ upTo (λ i. nearest 0 1) n → Ends rng phases memories ys
+  ends-still C h ys e =
+      let s = still whole freq g n C in
+      ((ap (λ (s : State). s .rng) s, ap (λ (s : State). s .phases) s, ap (λ (s : State). s .memories) s, h), e ∙ silent whole freq g n C)
+
+  -- the first pass writes every sample
+  pub sized : (ys : List Float) → ys ≡ tonesOut tonal freq g n → length ys ≡ n
+  sized ys e = ap (λ (z : List Float). length z) e ∙ length-tones tonal freq g n
+
+  -- LAW: no live band: the first pass is all
+  pub ends-tones : eqb (set .count) 0 ≡ false → set .«live_count» ≡ 0 → length memories ≡ 32 → (ps ys : List Float) → ps ≡ phasesAt tonal freq n → ys ≡ tonesOut tonal freq g n → Ends rng ps memories ys
+  ends-tones N L h ps ys ep ey =
+      let s = state-is whole freq g N n in (
+        (same-rng whole freq g L n ∙ sym (ap (λ (s : State). s .rng) s), ep ∙ tonal-phases ∙ sym (ap (λ (s : State). s .phases) s), same-memories whole freq g L n ∙ sym (ap (λ (s : State). s .memories) s), h),
+        same-out whole freq g L ys n (sized ys ey) ∙ ap (λ (z : List Float). noisesOut whole freq g z n) (ey ∙ tonal-out) ∙ out-is whole freq g N n,
+      )
+
+  -- LAW: both passes
+  pub ends-noisy : eqb (set .count) 0 ≡ false → (r : Rng) (ps ms ys zs : List Float) → ps ≡ phasesAt tonal freq n → ys ≡ tonesOut tonal freq g n → r ≡ rngAt noisal n → memoriesOf ms ≡ memoriesBefore noisal n → length ms ≡ 32
+      → zs ≡ noisesOut noisal freq g ys n → Ends r ps ms zs
+  ends-noisy N r ps ms ys zs ep ey er em h ez =
+      let s = state-is whole freq g N n in (
+        (er ∙ noisal-rng ∙ sym (ap (λ (s : State). s .rng) s), ep ∙ tonal-phases ∙ sym (ap (λ (s : State). s .phases) s), em ∙ noisal-memories ∙ sym (ap (λ (s : State). s .memories) s), h),
+        ez ∙ noisal-out ys ∙ ap (λ (z : List Float). noisesOut whole freq g z n) (ey ∙ tonal-out) ∙ out-is whole freq g N n,
+      )

@@ -2,24 +2,26 @@
 use mathlib.Core.Path.{_≡_, refl, sym, ap, _∙_}
 use mathlib.Core.Logic.{⊎-elim}
 use mathlib.Core.List.{List}
-use mathlib.Core.Bool.{true, false}
+use mathlib.Core.Bool.{Bool, true, false}
 use Prim.Native.Nat.{ℕ, zero, suc, _+_, _*_, _≤_, _<_}
 use native.Mathlib.Nat.{eq-or-lt-of-le}
 use native.Mathlib.Omega.{arith}
 use lib.ListN.{length, getD, set}
-use lib.Seq.{getD-set-same, getD-set-other}
+use lib.Seq.{getD-set-same, getD-set-other, lt-length-set}
 use lib.Dec.{T}
 use lib.Ieee.{Float, nan, binary32, fits, eq, ne}
 use lib.Ieee.Fits.{add-fits}
 use Rattle.wire.specs.Parse.{pick}
 use Rattle.float.specs.F32.{_⊕_, nearest}
-use Rattle.player.specs.Lists.{Filled, FilledRows, steps}
+use Rattle.float.proofs.Identities.{add-minus-zero}
+use Rattle.player.specs.Lists.{Filled, FilledRows, mapTo, steps}
 use Rattle.filters.specs.Biquad.{tickOf}
 use Rattle.player.specs.Sound.{noState, noCoeffs}
-use Rattle.player.specs.Columns.{minusZero, stateOfColumns, coeffsOfColumns, Memories, Coeffs, Ticked}
+use Rattle.player.specs.Columns.{added, heard, minusZero, stateOfColumns, coeffsOfColumns, Memories, Coeffs, Ticked}
 use Rattle.filters.specs.declared.biquad.BiquadCoeffs.{BiquadCoeffs}
 use Rattle.filters.specs.declared.biquad.BiquadState.{BiquadState}
 use Rattle.filters.specs.declared.biquad.Tick.{Tick}
+use Rattle.player.proofs.Loops.{mapTo-at}
 
 -- ---- a column that a loop fills
 -- the place that is written
@@ -154,11 +156,31 @@ state-kept w1 w2 z1 z2 l K J = rw (K .at l (omega arith), J .at l (omega arith))
 pub ticked-full : (ys w1 w2 z1 z2 b0 b1 b2 a1 a2 : List Float) (x : Float) (l n : ℕ) → l ≡ n → Ticked ys w1 w2 z1 z2 b0 b1 b2 a1 a2 x l → Ticked ys w1 w2 z1 z2 b0 b1 b2 a1 a2 x n
 ticked-full ys w1 w2 z1 z2 b0 b1 b2 a1 a2 x l n e K = rw e at K
 
--- ---- a term that is stored, and then -0 over it where the coefficient is 0
-pub silent : (coeff term : Float) → eq coeff (nearest 0 1) ≡ true → minusZero ≡ pick (ne coeff (nearest 0 1)) term minusZero
-unfolding ne
-silent coeff term e = rw e
+-- ---- a term is stored, and -0 over it where the coefficient is 0
+-- LAW: adding what is heard, or -0 where nothing is, is adding where something is heard
+pub add-heard : (y c x : Float) → T (fits binary32 y) → y ⊕ heard c x ≡ added y c x
+add-heard y c x F = go (ne c (nearest 0 1))
+  where
+    go : (b : Bool) → y ⊕ pick b x minusZero ≡ pick b (y ⊕ x) y
+    go true = refl
+    go false = add-minus-zero y F
 
-pub heard : (coeff term : Float) → eq coeff (nearest 0 1) ≡ false → term ≡ pick (ne coeff (nearest 0 1)) term minusZero
+pub heard-is : (c x : Float) → eq c (nearest 0 1) ≡ false → x ≡ heard c x
 unfolding ne
-heard coeff term e = rw e
+heard-is c x h = rw h
+
+pub silent-is : (c x : Float) → eq c (nearest 0 1) ≡ true → minusZero ≡ heard c x
+unfolding ne
+silent-is c x h = rw h
+
+module _ (f : ℕ → Float) (xs : List Float) (n : ℕ) (c x : Float) where
+  pub heard-again : (v : Float) → n < length xs → heard c x ≡ f n → eq c (nearest 0 1) ≡ false → v ≡ x → Filled xs f n → Filled (set xs n v) f (n + 1)
+  heard-again v h e z q F = filled-again f xs n v h (q ∙ heard-is c x z ∙ e) F
+
+  pub silent-again : (v w : Float) → n < length xs → heard c x ≡ f n → eq c (nearest 0 1) ≡ true → w ≡ minusZero → Filled xs f n → Filled (set (set xs n v) n w) f (n + 1)
+  silent-again v w h e z q F =
+      filled-again f (set xs n v) n w (lt-length-set xs n v h) (q ∙ silent-is c x z ∙ e) (record { at = λ i l. getD-set-other xs n i v nan (λ p. absurd (omega arith)) ∙ F .at i l })
+
+-- ---- a column of which each place was mapped
+pub mapped-filled : (f : ℕ → Float → Float) (n : ℕ) (l xs : List Float) → n ≤ length l → xs ≡ mapTo f 0 n l → Filled xs (λ i. f i (getD l i nan)) n
+mapped-filled f n l xs h e = record { at = λ i k. ap (λ (z : List Float). getD z i nan) e ∙ mapTo-at f nan n i l k (omega arith) }

@@ -2,12 +2,14 @@ pub mod Waves
 pub mod PhaseLaws
 pub mod Loops
 pub mod ColumnLaws
+pub mod PartsLaws
 pub mod RangeLaws
 pub mod QuestionLaws
 pub mod BracketLaws
 pub mod SoundLaws
 pub mod BandColumns
 pub mod Bench
-pub mod Filling
 pub mod ToneLaws
+pub mod TonePass
+pub mod NoisePass
 pub mod ChannelLaws

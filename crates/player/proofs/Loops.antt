@@ -1,5 +1,5 @@
 -- The laws of the lists that a counting loop builds, one turn at a time.
-use mathlib.Core.Path.{_≡_, refl, ap}
+use mathlib.Core.Path.{_≡_, refl, sym, ap, _∙_}
 use mathlib.Core.Logic.{⊎-elim}
 use mathlib.Core.List.{List, [], _∷_, _++_, append-assoc, append-nil}
 use mathlib.Core.Bool.{Bool, true, false, _&&_}
@@ -8,8 +8,8 @@ use native.Mathlib.Numerals.{add-one}
 use native.Mathlib.Nat.{add-zero, add-suc, suc-add, zero-add, suc-mul, one-mul, mul-le-mul-right, mod-lt, eq-or-lt-of-le}
 use native.Mathlib.Omega.{arith}
 use lib.Ieee.{Float, nan}
-use lib.ListN.{length, take, drop, getD, set, length-append, drop-of-length-le}
-use lib.Seq.{drop-cons, set-at, take-at, drop-at, drop-drop}
+use lib.ListN.{length, take, drop, getD, set, length-append, drop-of-length-le, List·getD-append, take-append-drop}
+use lib.Seq.{drop-cons, set-at, take-at, drop-at, drop-drop, getD-at, ext-getD, drop-append-le}
 use Rattle.player.specs.Lists.{mapTo, upTo, steps, joinTo, every}
 use Rattle.player.specs.Input.{InputFits, inputAt, startOf}
 use Rattle.player.specs.declared.input.Input.{Input}
@@ -144,16 +144,43 @@ module _ {A : Type 0} (f : ℕ → A) where
   pub upTo-full : (i n : ℕ) (l ls : List A) → i ≡ n → length l ≡ n → ls ≡ upTo f i ++ drop i l → ls ≡ upTo f n
   upTo-full i n l ls q h e = rw (e, q, drop-of-length-le l {i = n} (omega arith), append-nil)
 
+  -- element i
+  pub upTo-at : (n i : ℕ) (d : A) → i < n → getD (upTo f n) i d ≡ f i
+  unfolding upTo
+  upTo-at zero i d h = absurd (omega arith)
+  upTo-at (suc n) i d h =
+      ⊎-elim (λ (e : i ≡ n). rw e (getD-at (upTo f n) (f n) [] d n (length-upTo n)))
+      (λ (q : i < n). let k = length-upTo n in List·getD-append (upTo f n) (f n ∷ []) d i (omega arith) ∙ upTo-at n i d q)
+      (eq-or-lt-of-le (omega arith))
+
+  -- what a turn reads: the element is still as it was
+  pub upTo-read : (n : ℕ) (l ls : List A) (d : A) → n < length l → ls ≡ upTo f n ++ drop n l → getD ls n d ≡ getD l n d
+  upTo-read n l ls d h e = rw (e, drop-cons l n d h, getD-at (upTo f n) (getD l n d) (drop (suc n) l) d n (length-upTo n))
+
+-- lists that are filled alike
+pub upTo-as : {A : Type 0} (f h : ℕ → A) (n : ℕ) → ((i : ℕ) → i < n → f i ≡ h i) → upTo f n ≡ upTo h n
+unfolding upTo
+upTo-as f h zero e = refl
+upTo-as {A} f h (suc n) e = ap (λ (z : List A). z ++ (f n ∷ [])) (upTo-as f h n (λ i l. e i (omega arith))) ∙ ap (λ (z : A). upTo h n ++ (z ∷ [])) (e n (omega arith))
+
+-- and of the elements that a list has
+pub upTo-same : {A : Type 0} (l : List A) (d : A) (n : ℕ) → length l ≡ n → upTo (λ i. getD l i d) n ≡ l
+upTo-same l d n h = ext-getD d _ l (length-upTo (λ i. getD l i d) n ∙ sym h) (λ i k. let s = length-upTo (λ i. getD l i d) n in upTo-at (λ i. getD l i d) n i d (omega arith))
+
+-- the parts, with another first one
+abbrev pub behind : {A : Type 0} → List A → (ℕ → List A) → ℕ → List A
+behind x f zero = x
+behind x f (suc i) = f (suc i)
+
+pub behind-at : {A : Type 0} (x : List A) (f : ℕ → List A) (i : ℕ) → 1 ≤ i → behind x f i ≡ f i
+behind-at x f zero h = absurd (omega arith)
+behind-at x f (suc i) h = refl
+
 module _ {A : Type 0} (f : ℕ → List A) (n : ℕ) (sized : (i : ℕ) → length (f i) ≡ n) where
   pub length-joinTo : (c : ℕ) → length (joinTo f c) ≡ c * n
   unfolding joinTo
   length-joinTo zero = omega arith
   length-joinTo (suc c) = rw (length-append, length-joinTo c, sized c, suc-mul)
-
-  -- the first part is written
-  pub joinTo-first : (l ys : List A) → ys ≡ f 0 → ys ++ drop n l ≡ joinTo f 1 ++ drop (1 * n) (ys ++ drop n l)
-  unfolding joinTo
-  joinTo-first l ys e = rw (e, one-mul, drop-at (f 0) (drop n l) n (sized 0))
 
   -- what a turn of a loop over the parts leaves: part c, of n elements, is written
   pub joinTo-again : (c k : ℕ) (l ls ys : List A) → k ≡ n → ls ≡ joinTo f c ++ drop (c * n) l → ys ≡ f c
@@ -164,3 +191,26 @@ module _ {A : Type 0} (f : ℕ → List A) (n : ℕ) (sized : (i : ℕ) → leng
 
   pub joinTo-full : (c k : ℕ) (l ls : List A) → c ≡ k → length l ≡ k * n → ls ≡ joinTo f c ++ drop (c * n) l → ls ≡ joinTo f k
   joinTo-full c k l ls q h e = rw (e, q, drop-of-length-le l {i = k * n} (omega arith), append-nil)
+
+-- ---- the parts behind the first are written first
+module _ {A : Type 0} (f : ℕ → List A) (n : ℕ) (sized : (i : ℕ) → length (f i) ≡ n) where
+  pub behind-sized : (x : List A) → length x ≡ n → (i : ℕ) → length (behind x f i) ≡ n
+  behind-sized x h zero = h
+  behind-sized x h (suc i) = sized (suc i)
+
+  pub behind-first : (l : List A) → l ≡ joinTo (behind (take n l) f) 1 ++ drop (1 * n) l
+  unfolding joinTo
+  behind-first l = rw one-mul (sym (take-append-drop n l))
+
+  replaced : (x : List A) → length x ≡ n → (k : ℕ) → f 0 ++ drop n (joinTo (behind x f) (suc k)) ≡ joinTo f (suc k)
+  unfolding joinTo
+  replaced x h zero = rw (drop-of-length-le x {i = n} (omega arith), append-nil)
+  replaced x h (suc k) =
+      let m = length-joinTo (behind x f) n (behind-sized x h) (suc k) in
+      let s = suc-mul k n in
+      rw (drop-append-le n (joinTo (behind x f) (suc k)) (f (suc k)) (omega arith), ← append-assoc (f 0) (drop n (joinTo (behind x f) (suc k))) (f (suc k)), replaced x h k)
+
+  -- LAW: and then the first
+  pub behind-last : (x ls ys : List A) (k : ℕ) → length x ≡ n → 1 ≤ k → ls ≡ joinTo (behind x f) k → ys ≡ f 0 → ys ++ drop n ls ≡ joinTo f k
+  behind-last x ls ys zero h l e y = absurd (omega arith)
+  behind-last x ls ys (suc k) h l e y = rw (e, y) (replaced x h k)

@@ -28,9 +28,6 @@ sum-within ph inc p i =
 pub sum-small : (ph inc : Float) → Phase ph → Step inc → Within 16777216 1 (ph ⊕ inc)
 sum-small ph inc p i = widen 1048577 16777216 (ph ⊕ inc) (lit≤ tt) (sum-within ph inc p i)
 
-pub phase-small : (ph : Float) → Phase ph → Within 16777216 1 ph
-phase-small ph p = widen 1 16777216 ph (lit≤ tt) (record { plain-is = p .plain-is; upper = le-of-lt (p .strict) })
-
 -- LAW: but for the sum, a step of the phase is exact: what is left is the sum's fraction
 pub advance-exact : (ph inc : Float) → Phase ph → Step inc → HasValue (advanceOf ph inc) false (num (ph ⊕ inc) % den (ph ⊕ inc)) (den (ph ⊕ inc))
 advance-exact ph inc p i = fraction-value (ph ⊕ inc) (add-fits binary32 ph inc) (sum-small ph inc p i)

@@ -52,26 +52,6 @@ FixedOf v x = (x .blend ≡ v .blend) × (x .k ≡ v .k) × (x .m ≡ v .m) × (
 
 -- ---- a channel
 module _ (v : Voice) (freq : ℕ → Float) (g : ℕ → List Float) where
-  pub out-again : (i : ℕ) (l ls : List Float) (s : State) (y : Float) → i < length l → ls ≡ channelOut v freq g i ++ drop i l → s ≡ stateAt v freq i → y ≡ sound v s (cleaned (freq i)) (g i)
-      → set ls i y ≡ channelOut v freq g (i + 1) ++ drop (i + 1) l
-  unfolding channelOut
-  out-again i l ls s y h e es ey = ap (λ (z : Float). set ls i z) (ey ∙ ap (λ (t : State). sound v t (cleaned (freq i)) (g i)) es) ∙ upTo-again (λ i. sound v (stateAt v freq i) (cleaned (freq i)) (g i)) i l ls h e
-
-  pub state-again : (i : ℕ) (s t : State) → s ≡ stateAt v freq i → t ≡ moved v (cleaned (freq i)) s → t ≡ stateAt v freq (i + 1)
-  unfolding stateAt
-  state-again i s t es et = et ∙ steps-again (λ t s. moved v (cleaned (freq t)) s) (v .state) s i es
-
-  pub out-first : (l : List Float) → l ≡ channelOut v freq g 0 ++ drop 0 l
-  unfolding channelOut upTo
-  out-first l = refl
-
-  pub state-full : (i n : ℕ) (s : State) → i ≡ n → s ≡ stateAt v freq i → s ≡ stateAt v freq n
-  state-full i n s q e = rw (e, q)
-
-  pub out-full : (i n : ℕ) (l ls : List Float) → i ≡ n → length l ≡ n → ls ≡ channelOut v freq g i ++ drop i l → ls ≡ channelOut v freq g n
-  unfolding channelOut
-  out-full i n l ls q h e = upTo-full (λ i. sound v (stateAt v freq i) (cleaned (freq i)) (g i)) i n l ls q h e
-
   pub length-channel : (n : ℕ) → length (channelOut v freq g n) ≡ n
   unfolding channelOut
   length-channel n = length-upTo (λ i. sound v (stateAt v freq i) (cleaned (freq i)) (g i)) n

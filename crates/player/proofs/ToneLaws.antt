@@ -18,10 +18,12 @@ use Rattle.player.specs.Fade.{nyquistFade}
 use Rattle.player.specs.Voice.{phaseOk, phasesOk}
 use Rattle.player.specs.Sound.{sidesAt, stepAt, fadeAt, partialRow, noiseRow, movedPhases, addSingle, addBlend, blendCoeff, partialTerm, partialSum}
 use Rattle.player.specs.Bracket.{bracketOf, sidesOf, between}
-use Rattle.player.specs.Tuning.{Tuned, added, rowsIn}
+use Rattle.player.specs.Columns.{added}
+use Rattle.player.specs.Tuning.{Tuned, NoiseTuned, rowsIn}
 use Rattle.player.specs.declared.bracket.Sides.{Sides}
 use Rattle.player.specs.declared.fixed.Fixed.{Fixed}
 use Rattle.player.specs.declared.pitch.Pitch.{Pitch}
+use Rattle.player.specs.declared.tuning.NoiseTuning.{NoiseTuning}
 use Rattle.player.specs.declared.tuning.Tuning.{Tuning}
 use Rattle.player.specs.declared.voice.Voice.{Voice}
 use Rattle.player.proofs.Loops.{every-at, at-every, mapTo-at}
@@ -37,40 +39,44 @@ mapped-same f g k (suc n) [] h = refl
 mapped-same f g k (suc n) (x ∷ l) h =
     ap (λ (z : Float). z ∷ mapTo f (suc k) n l) (h k x (omega arith) (omega arith)) ∙ ap (λ (z : List Float). g k x ∷ z) (mapped-same f g (suc k) n l (λ i p a b. h i p (omega arith) (omega arith)))
 
--- the columns of a voice at the frequency f0
-pub record TunedVoice (v : Voice) (f0 : Float) (incs fades rows noiseRows : List Float) (t : Tuning) : Type 0 where
+-- the partials' columns of a voice at the frequency f0
+pub record TunedVoice (v : Voice) (f0 : Float) (incs fades rows : List Float) (t : Tuning) : Type 0 where
   pub mainlobe : t .mainlobe ≡ between (v .«mainlobe_gain») (sidesAt v f0)
-  pub noise-gain : t .«noise_gain» ≡ between (v .«noise_gain») (sidesAt v f0)
   pub safe : AllSteps incs (v .m)
   pub small : t .small ≡ every (λ i. le (getD incs i nan) (nearest 31 32)) (v .m)
   pub steps-are : Filled incs (λ i. stepAt v f0 i) (v .m)
   pub fading : Filled fades (λ i. fadeAt v f0 i) (v .m)
   pub rows-are : FilledRows rows (λ q i. partialRow (v .partials) (sidesAt v f0) q i) (pick (eqb (v .blend) 0) 1 (v .k)) (v .m)
-  pub noise-rows-are : FilledRows noiseRows (λ q l. noiseRow (v .noise) (sidesAt v f0) q (getD (v .live) l 0)) (pick (eqb (v .blend) 0) 1 (v .k)) (v .«live_count»)
 
-abbrev pub TunedTo : Voice → Fixed → Float → List Float → List Float → List Float → List Float → Tuning → Type 0
-TunedTo v x f0 incs fades rows noiseRows t =
-    Tuned x (v .count) (v .«live_count») (v .«f0_hz») (v .stretch) (v .«mainlobe_gain») (v .«noise_gain») (v .partials) (v .noise) (v .live) f0 incs fades rows noiseRows t
+abbrev pub TunedTo : Voice → Fixed → Float → List Float → List Float → List Float → Tuning → Type 0
+TunedTo v x f0 incs fades rows t = Tuned x (v .count) (v .«f0_hz») (v .stretch) (v .«mainlobe_gain») (v .partials) f0 incs fades rows t
 
-module _ (v : Voice) (x : Fixed) (X : FixedOf v x) (incs fades rows noiseRows : List Float) (t : Tuning) where
-  pub tuned-voice : (f0 : Float) → TunedTo v x f0 incs fades rows noiseRows t → TunedVoice v f0 incs fades rows noiseRows t
+module _ (v : Voice) (x : Fixed) (X : FixedOf v x) (incs fades rows : List Float) (t : Tuning) where
+  pub tuned-voice : (f0 : Float) → TunedTo v x f0 incs fades rows t → TunedVoice v f0 incs fades rows t
   unfolding sidesAt
   tuned-voice f0 T = record {
     mainlobe = T .mainlobe;
-    noise-gain = T .noise-gain;
     safe = rw (← X .2) (T .safe);
     small = T .small ∙ ap (λ (m : ℕ). every (λ i. le (getD incs i nan) (nearest 31 32)) m) (X .2);
     steps-are = rw (← X .2, ← X .3) (T .steps);
     fading = rw (← X .2, ← X .4) (T .fading);
     rows-are = rw (← X .0, ← X .1, ← X .2) (T .rows-are);
-    noise-rows-are = rw (← X .0, ← X .1) (T .noise-rows-are);
   }
 
   -- columns that are tuned serve every frequency that compares equal: it is the same
-  pub stays : (f0 : Float) → T (fits binary32 f0) → Within 20000 1 f0 → TunedTo v x f0 incs fades rows noiseRows t
-      → (g : Float) → T (fits binary32 g) → Within 20000 1 g → eq g (t .f0) ≡ true → TunedTo v x g incs fades rows noiseRows t
+  pub stays : (f0 : Float) → T (fits binary32 f0) → Within 20000 1 f0 → TunedTo v x f0 incs fades rows t
+      → (g : Float) → T (fits binary32 g) → Within 20000 1 g → eq g (t .f0) ≡ true → TunedTo v x g incs fades rows t
   stays f0 F W T g G U e =
-      subst (λ (z : Float). TunedTo v x z incs fades rows noiseRows t) (sym (same-float g f0 G F (U .plain-is) (W .plain-is) (ap (λ (z : Float). eq g z) (sym (T .at)) ∙ e))) T
+      subst (λ (z : Float). TunedTo v x z incs fades rows t) (sym (same-float g f0 G F (U .plain-is) (W .plain-is) (ap (λ (z : Float). eq g z) (sym (T .at)) ∙ e))) T
+
+-- the live bands' columns, in the same way
+abbrev pub NoiseTunedTo : Voice → Fixed → Float → List Float → NoiseTuning → Type 0
+NoiseTunedTo v x f0 rows t = NoiseTuned x (v .count) (v .«live_count») (v .«f0_hz») (v .«noise_gain») (v .noise) (v .live) f0 rows t
+
+pub noise-stays : (v : Voice) (x : Fixed) (rows : List Float) (t : NoiseTuning) (f0 : Float) → T (fits binary32 f0) → Within 20000 1 f0 → NoiseTunedTo v x f0 rows t
+    → (g : Float) → T (fits binary32 g) → Within 20000 1 g → eq g (t .f0) ≡ true → NoiseTunedTo v x g rows t
+noise-stays v x rows t f0 F W T g G U e =
+    subst (λ (z : Float). NoiseTunedTo v x z rows t) (sym (same-float g f0 G F (U .plain-is) (W .plain-is) (ap (λ (z : Float). eq g z) (sym (T .at)) ∙ e))) T
 
 -- no frequency is equal to the NaN of columns that are not tuned yet
 pub untuned-none : (g : Float) → eq g nan ≡ true → ⊥
@@ -79,7 +85,7 @@ untuned-none nan e = subst T (sym e) tt
 untuned-none (inf s) e = subst T (sym e) tt
 untuned-none (fin s m d) e = subst T (sym e) tt
 
-module _ (v : Voice) (f0 : Float) (incs fades rows noiseRows : List Float) (t : Tuning) (T : TunedVoice v f0 incs fades rows noiseRows t) (ps qs : List Float) (P : phasesOk ps (v .m) ≡ true)
+module _ (v : Voice) (f0 : Float) (incs fades rows : List Float) (t : Tuning) (T : TunedVoice v f0 incs fades rows t) (ps qs : List Float) (P : phasesOk ps (v .m) ≡ true)
     (Q : qs ≡ mapTo (λ i p. advanceOf p (getD incs i nan)) 0 (v .m) ps) where
   pub moved-phases : qs ≡ movedPhases v f0 ps
   unfolding movedPhases
@@ -143,9 +149,9 @@ module _ (v : Voice) (f0 : Float) (incs fades rows noiseRows : List Float) (t : 
     tone-sound y e = e ∙ steps-as _ _ (nearest 0 1) (v .m) (λ i l y. each (eqb (v .blend) 0) refl i l y)
 
 -- ---- columns that are filled anew
-module _ (x : Fixed) (count n : ℕ) (pitches stretches mainlobes noiseGains partials noise : List Float) (live : List ℕ) (f0 : Float) (p : Pitch)
-    (P : (p .f0 ≡ f0) × (p .s ≡ sidesOf (bracketOf pitches count f0)) × (p .stretch ≡ between stretches (p .s)) × (p .mainlobe ≡ between mainlobes (p .s)) × (p .«noise_gain» ≡ between noiseGains (p .s)))
-    (freqs incs fades rows noiseRows : List Float) (k : ℕ) (b : Bool) where
+module _ (x : Fixed) (count : ℕ) (pitches stretches mainlobes partials : List Float) (f0 : Float) (p : Pitch)
+    (P : (p .f0 ≡ f0) × (p .s ≡ sidesOf (bracketOf pitches count f0)) × (p .stretch ≡ between stretches (p .s)) × (p .mainlobe ≡ between mainlobes (p .s)))
+    (freqs incs fades rows : List Float) (k : ℕ) (b : Bool) where
   -- the stretch between the sides of f0
   stretch-is : p .stretch ≡ between stretches (sidesOf (bracketOf pitches count f0))
   stretch-is = P .2 ∙ ap (λ (z : Sides). between stretches z) (P .1)
@@ -153,16 +159,24 @@ module _ (x : Fixed) (count n : ℕ) (pitches stretches mainlobes noiseGains par
   -- LAW: what `tune` fills is tuned to f0
   pub tuned-is : Within 8 1 (p .stretch) → Within 20000 1 f0 → Within 1 4096 (x .inv) → x .m ≤ 32 → k ≡ rowsIn x → Filled freqs (λ i. partialFreq (i + 1) f0 (p .stretch)) (x .m)
       → Filled incs (λ i. stepOf (i + 1) f0 (p .stretch) (x .inv)) (x .m) → Filled fades (λ i. nyquistFade (getD freqs i nan) (x .nyquist)) (x .m)
-      → FilledRows rows (λ q i. partialRow partials (p .s) q i) k (x .m) → FilledRows noiseRows (λ q l. noiseRow noise (p .s) q (getD live l 0)) k n → b ≡ every (λ i. le (getD incs i nan) (nearest 31 32)) (x .m)
-      → Tuned x count n pitches stretches mainlobes noiseGains partials noise live f0 incs fades rows noiseRows (record { f0 = f0; mainlobe = p .mainlobe; «noise_gain» = p .«noise_gain»; small = b })
-  tuned-is W F I M ek A B C R N S = record {
+      → FilledRows rows (λ q i. partialRow partials (p .s) q i) k (x .m) → b ≡ every (λ i. le (getD incs i nan) (nearest 31 32)) (x .m)
+      → Tuned x count pitches stretches mainlobes partials f0 incs fades rows (record { f0 = f0; mainlobe = p .mainlobe; small = b })
+  tuned-is W F I M ek A B C R S = record {
     at = refl;
     mainlobe = P .3 ∙ ap (λ (z : Sides). between mainlobes z) (P .1);
-    noise-gain = P .4 ∙ ap (λ (z : Sides). between noiseGains z) (P .1);
     small = S;
     safe = record { at = λ i l. subst (λ (z : Float). Step z) (sym (B .at i l)) (step-small (i + 1) f0 (p .stretch) (x .inv) (omega arith) F W I) };
     steps = record { at = λ i l. B .at i l ∙ ap (λ (z : Float). stepOf (i + 1) f0 z (x .inv)) stretch-is };
     fading = record { at = λ i l. C .at i l ∙ ap (λ (z : Float). nyquistFade z (x .nyquist)) (A .at i l ∙ ap (λ (z : Float). partialFreq (i + 1) f0 z) stretch-is) };
     rows-are = record { at = λ q i h l. R .at q i (rw ek h) l ∙ ap (λ (z : Sides). partialRow partials z q i) (P .1) };
-    noise-rows-are = record { at = λ q l h a. N .at q l (rw ek h) a ∙ ap (λ (z : Sides). noiseRow noise z q (getD live l 0)) (P .1) };
   }
+
+-- LAW: what `tune_noise` fills is tuned to f0
+pub noise-tuned-is : (x : Fixed) (count n : ℕ) (pitches noiseGains noise : List Float) (live : List ℕ) (f0 : Float) (s : Sides) (rows : List Float) (k : ℕ) (y : Float) → s ≡ sidesOf (bracketOf pitches count f0) → k ≡ rowsIn x
+    → FilledRows rows (λ q l. noiseRow noise s q (getD live l 0)) k n → y ≡ between noiseGains s
+    → NoiseTuned x count n pitches noiseGains noise live f0 rows (record { f0 = f0; «noise_gain» = y })
+noise-tuned-is x count n pitches noiseGains noise live f0 s rows k y es ek N ey = record {
+  at = refl;
+  noise-gain = ey ∙ ap (λ (z : Sides). between noiseGains z) es;
+  rows-are = record { at = λ q l h a. N .at q l (rw ek h) a ∙ ap (λ (z : Sides). noiseRow noise z q (getD live l 0)) es };
+}

@@ -1,4 +1,4 @@
--- Columns of live bands: place l of a column belongs to live band l, that is to band `live[l]`.
+-- Columns of live bands: place l of a column belongs to live band l, that is to band `live[l]`. Cited by private functions only.
 use Prim.Native.Nat.{ℕ, _<_}
 use mathlib.Core.Path.{_≡_}
 use mathlib.Core.List.{List}
@@ -7,7 +7,7 @@ use lib.IntN.{pos}
 use lib.ListN.{getD}
 use lib.Ieee.{Float, nan, fin, ne}
 use Rattle.wire.specs.Parse.{pick}
-use Rattle.float.specs.F32.{_⊗_, nearest}
+use Rattle.float.specs.F32.{_⊕_, _⊗_, nearest}
 use Rattle.filters.specs.Biquad.{tickOf}
 use Rattle.player.specs.Sound.{noState, noCoeffs}
 use Rattle.filters.specs.declared.biquad.BiquadCoeffs.{BiquadCoeffs}
@@ -35,12 +35,19 @@ pub record Coeffs (b0 b1 b2 a1 a2 : List Float) (bs : List BiquadCoeffs) (live :
 pub record Ticked (ys w1 w2 z1 z2 b0 b1 b2 a1 a2 : List Float) (x : Float) (n : ℕ) : Type 0 where
   pub at : (l : ℕ) → l < n → record { state = stateOfColumns w1 w2 l; y = getD ys l nan } ≡ tickOf (stateOfColumns z1 z2 l) x (coeffsOfColumns b0 b1 b2 a1 a2 l)
 
--- ---- what a live band adds to the sample. Where its coefficient is 0 that is -0, which changes no float that it is added to.
+-- ---- what a partial or a live band adds to the sample: x where its coefficient c is not 0
+abbrev pub added : Float → Float → Float → Float
+added y c x = pick (ne c (nearest 0 1)) (y ⊕ x) y
+
+-- the same as a number to add. Where the coefficient is 0 that is -0, which changes no float that it is added to.
 abbrev pub minusZero : Float
 minusZero = fin true 0 (pos 0)
 
+abbrev pub heard : Float → Float → Float
+heard c x = pick (ne c (nearest 0 1)) x minusZero
+
 unfoldable pub singleTerm : Float → Float → Float → Float → Float → Float
-singleTerm coeff gain noiseGain makeup filtered = pick (ne coeff (nearest 0 1)) (coeff ⊗ noiseGain ⊗ gain ⊗ makeup ⊗ filtered) minusZero
+singleTerm coeff gain noiseGain makeup filtered = heard coeff (coeff ⊗ noiseGain ⊗ gain ⊗ makeup ⊗ filtered)
 
 unfoldable pub blendTerm : Float → Float → Float → Float → Float → Float
-blendTerm power root noiseGain makeup filtered = pick (ne power (nearest 0 1)) (root ⊗ noiseGain ⊗ makeup ⊗ filtered) minusZero
+blendTerm power root noiseGain makeup filtered = heard power (root ⊗ noiseGain ⊗ makeup ⊗ filtered)

@@ -9,5 +9,7 @@ pub mod Voice
 pub mod Sound
 pub mod Columns
 pub mod Block
+pub mod Parts
+pub mod Passes
 pub mod Play
 pub mod Tuning

@@ -12,6 +12,7 @@ use Rattle.player.specs.Block.{blockOut, blockEnd}
 use Rattle.player.specs.declared.input.Input.{Input}
 use Rattle.player.specs.declared.answer.PlayAnswer.{PlayAnswer}
 use Rattle.player.specs.declared.answer.Played.{Played}
+use Rattle.player.specs.declared.playing.Lent.{Lent}
 use Rattle.player.specs.declared.voice.State.{State}
 use Rattle.player.specs.declared.voice.Voice.{Voice}
 
@@ -61,6 +62,10 @@ pub record Outcome : Type 0 where
 
 abbrev pub outcomeOf : Played → Outcome
 outcomeOf p = record { number = playNumber (p .answer); voice = p .voice }
+
+-- the same of a voice whose lists are lent: the noise number is all that is not written where it lies
+abbrev pub lentOf : Outcome → Lent
+lentOf o = record { number = o .number; rng = o .voice .state .rng }
 
 unfoldable pub played : Voice → ℕ → Input → List Float → Gains → ℕ → ℕ → Outcome
 played v n freq fs g channels len =

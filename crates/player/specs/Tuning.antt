@@ -1,13 +1,13 @@
--- What a frequency decides of a sample, as columns hold it while the frequency stays; and what a column adds to a sample.
+-- What a frequency decides of a sample, as columns hold it while the frequency stays. Cited by private functions only.
 use mathlib.Core.Path.{_≡_}
 use mathlib.Core.Bool.{Bool, true, false}
 use mathlib.Core.List.{List}
 use Prim.Native.Nat.{ℕ, _+_}
 use lib.ListN.{getD}
 use lib.Dec.{eqb}
-use lib.Ieee.{Float, nan, ne, le, neg}
+use lib.Ieee.{Float, nan, le}
 use Rattle.wire.specs.Parse.{pick}
-use Rattle.float.specs.F32.{_⊕_, nearest}
+use Rattle.float.specs.F32.{nearest}
 use Rattle.player.specs.Lists.{Filled, FilledRows, every}
 use Rattle.player.specs.Phase.{AllSteps, partialFreq, stepOf}
 use Rattle.player.specs.Fade.{nyquistFade}
@@ -15,35 +15,32 @@ use Rattle.player.specs.Bracket.{bracketOf, sidesOf, between}
 use Rattle.player.specs.Sound.{partialRow, noiseRow}
 use Rattle.player.specs.declared.bracket.Sides.{Sides}
 use Rattle.player.specs.declared.fixed.Fixed.{Fixed}
+use Rattle.player.specs.declared.tuning.NoiseTuning.{NoiseTuning}
 use Rattle.player.specs.declared.tuning.Tuning.{Tuning}
-
--- x is added where the coefficient c is not 0
-abbrev pub added : Float → Float → Float → Float
-added y c x = pick (ne c (nearest 0 1)) (y ⊕ x) y
-
--- the same as a number to add: adding -0 changes nothing
-abbrev pub heard : Float → Float → Float
-heard c x = pick (ne c (nearest 0 1)) x (neg (nearest 0 1))
 
 -- a single voice has one row of coefficients, a blend one for each of its channels
 abbrev pub rowsIn : Fixed → ℕ
 rowsIn x = pick (eqb (x .blend) 0) 1 (x .k)
 
-module _ (x : Fixed) (count n : ℕ) (pitches stretches mainlobes noiseGains partials noise : List Float) (live : List ℕ) where
+-- the columns of the partials are those of the frequency f0
+module _ (x : Fixed) (count : ℕ) (pitches stretches mainlobes partials : List Float) where
   abbrev sides : Float → Sides
   sides f0 = sidesOf (bracketOf pitches count f0)
 
   abbrev stretch : Float → Float
   stretch f0 = between stretches (sides f0)
 
-  -- the columns are those of the frequency f0
-  pub record Tuned (f0 : Float) (incs fades rows noiseRows : List Float) (t : Tuning) : Type 0 where
+  pub record Tuned (f0 : Float) (incs fades rows : List Float) (t : Tuning) : Type 0 where
     pub at : t .f0 ≡ f0
     pub mainlobe : t .mainlobe ≡ between mainlobes (sides f0)
-    pub noise-gain : t .«noise_gain» ≡ between noiseGains (sides f0)
     pub small : t .small ≡ every (λ i. le (getD incs i nan) (nearest 31 32)) (x .m)
     pub safe : AllSteps incs (x .m)
     pub steps : Filled incs (λ i. stepOf (i + 1) f0 (stretch f0) (x .inv)) (x .m)
     pub fading : Filled fades (λ i. nyquistFade (partialFreq (i + 1) f0 (stretch f0)) (x .nyquist)) (x .m)
     pub rows-are : FilledRows rows (λ q i. partialRow partials (sides f0) q i) (rowsIn x) (x .m)
-    pub noise-rows-are : FilledRows noiseRows (λ q l. noiseRow noise (sides f0) q (getD live l 0)) (rowsIn x) n
+
+-- the columns of the live bands are those of the frequency f0
+pub record NoiseTuned (x : Fixed) (count n : ℕ) (pitches noiseGains noise : List Float) (live : List ℕ) (f0 : Float) (rows : List Float) (t : NoiseTuning) : Type 0 where
+  pub at : t .f0 ≡ f0
+  pub noise-gain : t .«noise_gain» ≡ between noiseGains (sidesOf (bracketOf pitches count f0))
+  pub rows-are : FilledRows rows (λ q l. noiseRow noise (sidesOf (bracketOf pitches count f0)) q (getD live l 0)) (rowsIn x) n

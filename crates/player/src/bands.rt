@@ -4,46 +4,44 @@ ghost use Prim.Native.Nat.{_≤_};
 ghost use lib.ListN.{length, getD, set};
 ghost use lib.Ieee.{nan};
 ghost use Rattle.player.specs.Lists.{Filled, steps};
+ghost use Rattle.player.specs.Parts.{memoriesOf, coeffsOf};
 ghost use Rattle.player.specs.Columns.{LiveIn, stateOfColumns, Memories, Coeffs, Ticked};
-use filters::BiquadCoeffs;
-use filters::BiquadState;
 
 // The memories of the live bands.
-pub fn gather_memories(
+pub fn gather_memories<'a>(
     z1: &mut [f32; 32],
     z2: &mut [f32; 32],
-    memories: [BiquadState; 16],
-    live: &[usize; 16],
+    memories: &'a [f32],
+    live: &'a [usize; 16],
     n: usize,
 )
-    requires { ⌜ (n ≤ 16) × LiveIn (now live) n ⌝ }
-    ensures { λ r. ⌜ Memories (now (z1 .exit)) (now (z2 .exit)) memories (now (live .entry)) n ⌝ }
-    ensures { λ r. ⌜ length memories ≡ 16 ⌝ }
+    requires { ⌜ (n ≤ 16) × (length (now memories) ≡ 32) × LiveIn (now live) n ⌝ }
+    ensures { λ r. ⌜ Memories (now (z1 .exit)) (now (z2 .exit)) (memoriesOf (now (memories .entry))) (now (live .entry)) n ⌝ }
 {
     let s1 = &mut z1[..];
     let s2 = &mut z2[..];
     let mut l = 0;
     while l < n {
-        let m = memories[live[l]];
-        s1[l] = m.z1;
-        s2[l] = m.z2;
+        let at = live[l] * 2;
+        s1[l] = memories[at];
+        s2[l] = memories[at + 1];
         l += 1;
     }
 }
 
 // Their coefficients.
-pub fn gather_coeffs(
+pub fn gather_coeffs<'a>(
     b0: &mut [f32; 32],
     b1: &mut [f32; 32],
     b2: &mut [f32; 32],
     a1: &mut [f32; 32],
     a2: &mut [f32; 32],
-    bands: [BiquadCoeffs; 16],
-    live: &[usize; 16],
+    bands: &'a [f32; 80],
+    live: &'a [usize; 16],
     n: usize,
 )
     requires { ⌜ (n ≤ 16) × LiveIn (now live) n ⌝ }
-    ensures { λ r. ⌜ Coeffs (now (b0 .exit)) (now (b1 .exit)) (now (b2 .exit)) (now (a1 .exit)) (now (a2 .exit)) bands (now (live .entry)) n ⌝ }
+    ensures { λ r. ⌜ Coeffs (now (b0 .exit)) (now (b1 .exit)) (now (b2 .exit)) (now (a1 .exit)) (now (a2 .exit)) (coeffsOf (now (bands .entry))) (now (live .entry)) n ⌝ }
 {
     let s0 = &mut b0[..];
     let s1 = &mut b1[..];
@@ -52,12 +50,12 @@ pub fn gather_coeffs(
     let t2 = &mut a2[..];
     let mut l = 0;
     while l < n {
-        let c = bands[live[l]];
-        s0[l] = c.b0;
-        s1[l] = c.b1;
-        s2[l] = c.b2;
-        t1[l] = c.a1;
-        t2[l] = c.a2;
+        let at = live[l] * 5;
+        s0[l] = bands[at];
+        s1[l] = bands[at + 1];
+        s2[l] = bands[at + 2];
+        t1[l] = bands[at + 3];
+        t2[l] = bands[at + 4];
         l += 1;
     }
 }
@@ -112,25 +110,20 @@ pub fn tick_bands<'a>(
 
 // The columns back into the memories of the live bands.
 pub fn scatter_memories<'a>(
-    memories: [BiquadState; 16],
+    memories: &mut [f32],
     live: &'a [usize; 16],
     z1: &'a [f32; 32],
     z2: &'a [f32; 32],
     n: usize,
-) -> [BiquadState; 16]
-    requires { ⌜ (n ≤ 16) × LiveIn (now live) n ⌝ }
-    ensures { λ r. ⌜ r ≡ steps (λ l ms. set ms (getD (now (live .entry)) l 0) (stateOfColumns (now (z1 .entry)) (now (z2 .entry)) l)) memories n ⌝ }
+)
+    requires { ⌜ (n ≤ 16) × (length (now memories) ≡ 32) × LiveIn (now live) n ⌝ }
+    ensures { λ r. ⌜ (memoriesOf (now (memories .exit)) ≡ steps (λ l ms. set ms (getD (now (live .entry)) l 0) (stateOfColumns (now (z1 .entry)) (now (z2 .entry)) l)) (memoriesOf (now (memories .entry))) n) × (length (now (memories .exit)) ≡ 32) ⌝ }
 {
-    let mut after = memories;
     let mut l = 0;
     while l < n {
-        let b = live[l];
-        let m = BiquadState {
-            z1: z1[l],
-            z2: z2[l],
-        };
-        after[b] = m;
+        let at = live[l] * 2;
+        memories[at] = z1[l];
+        memories[at + 1] = z2[l];
         l += 1;
     }
-    after
 }

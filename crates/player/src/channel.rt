@@ -1,4 +1,5 @@
-// One channel of a block. It starts from the voice's state, and answers the state at its end.
+// One channel of a block, in two passes: the partials of all samples, and then what the live bands add.
+// It starts from the state that it is lent, and leaves there the state at its end; the noise number is its answer.
 ghost use mathlib.Core.Path.{_≡_};
 ghost use mathlib.Core.Bool.{true};
 ghost use Prim.Native.Nat.{_≤_};
@@ -7,28 +8,15 @@ ghost use Rattle.float.specs.F32.{nearest};
 ghost use Rattle.player.specs.Lists.{upTo};
 ghost use Rattle.player.specs.Input.{InputFits, frequenciesOk, frequencyAt, gains, gainsAt};
 ghost use Rattle.player.specs.Voice.{keepsRules};
+ghost use Rattle.player.specs.Parts.{voiceOf, stateOf, memoriesOf, toneVoice};
+ghost use Rattle.player.specs.Passes.{phasesAt, tonesOut};
 ghost use Rattle.player.specs.Block.{stateAt, channelOut};
-use crate::bands::gather_coeffs;
-use crate::bands::gather_makeup;
-use crate::bands::gather_memories;
-use crate::bands::scatter_memories;
-use crate::bands::tick_bands;
-use crate::fixed::fixed_of;
-use crate::input::GainStarts;
+use crate::few::few_tones;
 use crate::input::Input;
-use crate::input::frequency_at;
-use crate::input::gains_at;
-use crate::input::start_of;
-use crate::noise::noise_step;
-use crate::noise::noise_sum;
-use crate::phases::move_phases;
-use crate::sines::sines_of;
-use crate::tone::tone_sum;
-use crate::tuning::tune;
-use crate::tuning::untuned;
-use crate::voice::State;
-use crate::voice::Voice;
-use wave_table::waves;
+use crate::noises::noises;
+use crate::tones::tones;
+use crate::voice::Setting;
+use filters::Rng;
 
 fn silence(samples: usize, out: &mut [f32])
     requires { ⌜ length (now out) ≡ samples ⌝ }
@@ -41,10 +29,14 @@ fn silence(samples: usize, out: &mut [f32])
     }
 }
 
-// A voice that has an entry. What moves, and what the samples share, is laid out in columns once, before the samples; `terms`, `rests`, `freqs`,
-// `sines`, `coeffs` and `ys` are only worked in.
-fn sounding(
-    voice: Voice,
+// The partials: none, few, or so many that columns are worth while.
+fn all_tones<'a>(
+    set: Setting,
+    f0_hz: &'a [f32; 16],
+    stretch: &'a [f32; 16],
+    mainlobe_gain: &'a [f32; 16],
+    partials: &'a [f32; 2048],
+    phases: &mut [f32; 32],
     samples: usize,
     freq: Input,
     freq_s: &[f32],
@@ -58,66 +50,27 @@ fn sounding(
     g3_s: &[f32],
     ch: usize,
     out: &mut [f32],
-) -> State
-    requires { ⌜ (keepsRules voice ≡ true) × (1 ≤ voice .count) × (length (now out) ≡ samples) × (samples ≤ 128) × (frequenciesOk freq (now «freq_s») ≡ true) ⌝ }
+)
+    requires { ⌜ (keepsRules (toneVoice set (now «f0_hz») (now stretch) (now «mainlobe_gain») (now partials) (now phases)) ≡ true) × (1 ≤ set .count) × (length (now out) ≡ samples) × (samples ≤ 128) × (frequenciesOk freq (now «freq_s») ≡ true) ⌝ }
     requires { ⌜ (InputFits freq samples (length (now «freq_s»))) × (InputFits g0 samples (length (now «g0_s»))) × (InputFits g1 samples (length (now «g1_s»))) × (InputFits g2 samples (length (now «g2_s»))) × (InputFits g3 samples (length (now «g3_s»))) ⌝ }
-    ensures { λ r. ⌜ r ≡ stateAt voice (frequencyAt freq (now («freq_s» .entry)) samples ch) samples ⌝ }
-    ensures { λ r. ⌜ now (out .exit) ≡ channelOut voice (frequencyAt freq (now («freq_s» .entry)) samples ch) (gainsAt (gains g0 (now («g0_s» .entry)) g1 (now («g1_s» .entry)) g2 (now («g2_s» .entry)) g3 (now («g3_s» .entry))) samples ch) samples ⌝ }
+    ensures { λ r. ⌜ now (phases .exit) ≡ phasesAt (toneVoice set (now («f0_hz» .entry)) (now (stretch .entry)) (now («mainlobe_gain» .entry)) (now (partials .entry)) (now (phases .entry))) (frequencyAt freq (now («freq_s» .entry)) samples ch) samples ⌝ }
+    ensures { λ r. ⌜ now (out .exit) ≡ tonesOut (toneVoice set (now («f0_hz» .entry)) (now (stretch .entry)) (now («mainlobe_gain» .entry)) (now (partials .entry)) (now (phases .entry))) (frequencyAt freq (now («freq_s» .entry)) samples ch) (gainsAt (gains g0 (now («g0_s» .entry)) g1 (now («g1_s» .entry)) g2 (now («g2_s» .entry)) g3 (now («g3_s» .entry))) samples ch) samples ⌝ }
 {
-    let wave = waves();
-    let v = fixed_of(voice.blend, voice.k, voice.m, voice.sample_rate);
-    let state = voice.state;
-    let memories = state.memories;
-    let bands = voice.bands;
-    let at = start_of(freq, freq_s.len(), samples, ch);
-    let gains_from = GainStarts {
-        g0: start_of(g0, g0_s.len(), samples, ch),
-        g1: start_of(g1, g1_s.len(), samples, ch),
-        g2: start_of(g2, g2_s.len(), samples, ch),
-        g3: start_of(g3, g3_s.len(), samples, ch),
-    };
-    let mut z1: [f32; 32] = [0.0; 32];
-    let mut z2: [f32; 32] = [0.0; 32];
-    let mut b0: [f32; 32] = [0.0; 32];
-    let mut b1: [f32; 32] = [0.0; 32];
-    let mut b2: [f32; 32] = [0.0; 32];
-    let mut a1: [f32; 32] = [0.0; 32];
-    let mut a2: [f32; 32] = [0.0; 32];
-    let mut makeup: [f32; 32] = [0.0; 32];
-    let mut ys: [f32; 32] = [0.0; 32];
-    let mut freqs: [f32; 32] = [0.0; 32];
-    let mut incs: [f32; 32] = [0.0; 32];
-    let mut fades: [f32; 32] = [0.0; 32];
-    let mut sines: [f32; 32] = [0.0; 32];
-    let mut terms: [f32; 32] = [0.0; 32];
-    let mut rests: [f32; 32] = [0.0; 32];
-    let mut coeffs: [f32; 32] = [0.0; 32];
-    let mut rows: [f32; 128] = [0.0; 128];
-    let mut band_rows: [f32; 128] = [0.0; 128];
-    gather_memories(&mut z1, &mut z2, memories, &voice.live, voice.live_count);
-    gather_coeffs(
-        &mut b0,
-        &mut b1,
-        &mut b2,
-        &mut a1,
-        &mut a2,
-        bands,
-        &voice.live,
-        voice.live_count,
-    );
-    gather_makeup(
-        &mut makeup,
-        &voice.compensation,
-        &voice.live,
-        voice.live_count,
-    );
-    let mut phases = state.phases;
-    let mut rng = state.rng;
-    let mut t = untuned();
-    let mut i = 0;
-    while i < samples {
-        let f0 = frequency_at(freq, freq_s, samples, ch, at, i);
-        let g = gains_at(
+    if set.m == 0 {
+        silence(samples, out);
+        return;
+    }
+    if set.m < 4 {
+        few_tones(
+            set,
+            f0_hz,
+            stretch,
+            mainlobe_gain,
+            partials,
+            phases,
+            samples,
+            freq,
+            freq_s,
             g0,
             g0_s,
             g1,
@@ -126,91 +79,48 @@ fn sounding(
             g2_s,
             g3,
             g3_s,
-            samples,
             ch,
-            gains_from,
-            i,
+            out,
         );
-        t = tune(
-            t,
-            f0,
-            &mut freqs,
-            &mut incs,
-            &mut fades,
-            &mut rows,
-            &mut band_rows,
-            v,
-            voice.count,
-            voice.live_count,
-            &voice.f0_hz,
-            &voice.stretch,
-            &voice.mainlobe_gain,
-            &voice.noise_gain,
-            &voice.partials,
-            &voice.noise,
-            &voice.live,
-        );
-        move_phases(&mut phases, &incs, voice.m, t.small);
-        sines_of(
-            &mut sines,
-            &mut terms,
-            &mut rests,
-            &mut coeffs,
-            &phases,
-            &wave,
-            voice.m,
-        );
-        let tone = tone_sum(
-            &mut terms,
-            &mut coeffs,
-            &rows,
-            t.mainlobe,
-            &fades,
-            &g,
-            &sines,
-            voice.blend,
-            voice.k,
-            voice.m,
-        );
-        let next = noise_step(voice.live_count, rng);
-        tick_bands(
-            &mut ys,
-            &mut z1,
-            &mut z2,
-            &b0,
-            &b1,
-            &b2,
-            &a1,
-            &a2,
-            next.value,
-            voice.live_count,
-        );
-        rng = next.rng;
-        out[i] = noise_sum(
-            tone,
-            &mut terms,
-            &mut coeffs,
-            &band_rows,
-            &g,
-            voice.blend,
-            voice.k,
-            t.noise_gain,
-            &makeup,
-            &ys,
-            voice.live_count,
-        );
-        i += 1;
+        return;
     }
-    let after = scatter_memories(memories, &voice.live, &z1, &z2, voice.live_count);
-    State {
+    tones(
+        set,
+        f0_hz,
+        stretch,
+        mainlobe_gain,
+        partials,
         phases,
-        memories: after,
-        rng,
-    }
+        samples,
+        freq,
+        freq_s,
+        g0,
+        g0_s,
+        g1,
+        g1_s,
+        g2,
+        g2_s,
+        g3,
+        g3_s,
+        ch,
+        out,
+    );
 }
 
-pub fn channel_of(
-    voice: Voice,
+pub fn channel_of<'a>(
+    set: Setting,
+    live: &'a [usize; 16],
+    f0_hz: &'a [f32; 16],
+    stretch: &'a [f32; 16],
+    mainlobe_gain: &'a [f32; 16],
+    noise_gain: &'a [f32; 16],
+    partials: &'a [f32; 2048],
+    noise: &'a [f32; 1024],
+    bands: &'a [f32; 80],
+    compensation: &'a [f32; 16],
+    phases: &mut [f32; 32],
+    memories: &mut [f32],
+    rng: Rng,
     samples: usize,
     freq: Input,
     freq_s: &[f32],
@@ -224,18 +134,50 @@ pub fn channel_of(
     g3_s: &[f32],
     ch: usize,
     out: &mut [f32],
-) -> State
-    requires { ⌜ (keepsRules voice ≡ true) × (length (now out) ≡ samples) × (samples ≤ 128) × (frequenciesOk freq (now «freq_s») ≡ true) ⌝ }
+) -> Rng
+    requires { ⌜ (keepsRules (voiceOf set (now live) (now «f0_hz») (now stretch) (now «mainlobe_gain») (now «noise_gain») (now partials) (now noise) (now bands) (now compensation) (stateOf (now phases) (now memories) rng)) ≡ true) × (length (now memories) ≡ 32) × (length (now out) ≡ samples) × (samples ≤ 128) × (frequenciesOk freq (now «freq_s») ≡ true) ⌝ }
     requires { ⌜ (InputFits freq samples (length (now «freq_s»))) × (InputFits g0 samples (length (now «g0_s»))) × (InputFits g1 samples (length (now «g1_s»))) × (InputFits g2 samples (length (now «g2_s»))) × (InputFits g3 samples (length (now «g3_s»))) ⌝ }
-    ensures { λ r. ⌜ r ≡ stateAt voice (frequencyAt freq (now («freq_s» .entry)) samples ch) samples ⌝ }
-    ensures { λ r. ⌜ now (out .exit) ≡ channelOut voice (frequencyAt freq (now («freq_s» .entry)) samples ch) (gainsAt (gains g0 (now («g0_s» .entry)) g1 (now («g1_s» .entry)) g2 (now («g2_s» .entry)) g3 (now («g3_s» .entry))) samples ch) samples ⌝ }
+    ensures { λ r. ⌜ (r ≡ stateAt (voiceOf set (now (live .entry)) (now («f0_hz» .entry)) (now (stretch .entry)) (now («mainlobe_gain» .entry)) (now («noise_gain» .entry)) (now (partials .entry)) (now (noise .entry)) (now (bands .entry)) (now (compensation .entry)) (stateOf (now (phases .entry)) (now (memories .entry)) rng)) (frequencyAt freq (now («freq_s» .entry)) samples ch) samples .rng) × (now (phases .exit) ≡ stateAt (voiceOf set (now (live .entry)) (now («f0_hz» .entry)) (now (stretch .entry)) (now («mainlobe_gain» .entry)) (now («noise_gain» .entry)) (now (partials .entry)) (now (noise .entry)) (now (bands .entry)) (now (compensation .entry)) (stateOf (now (phases .entry)) (now (memories .entry)) rng)) (frequencyAt freq (now («freq_s» .entry)) samples ch) samples .phases) × (memoriesOf (now (memories .exit)) ≡ stateAt (voiceOf set (now (live .entry)) (now («f0_hz» .entry)) (now (stretch .entry)) (now («mainlobe_gain» .entry)) (now («noise_gain» .entry)) (now (partials .entry)) (now (noise .entry)) (now (bands .entry)) (now (compensation .entry)) (stateOf (now (phases .entry)) (now (memories .entry)) rng)) (frequencyAt freq (now («freq_s» .entry)) samples ch) samples .memories) × (length (now (memories .exit)) ≡ 32) ⌝ }
+    ensures { λ r. ⌜ now (out .exit) ≡ channelOut (voiceOf set (now (live .entry)) (now («f0_hz» .entry)) (now (stretch .entry)) (now («mainlobe_gain» .entry)) (now («noise_gain» .entry)) (now (partials .entry)) (now (noise .entry)) (now (bands .entry)) (now (compensation .entry)) (stateOf (now (phases .entry)) (now (memories .entry)) rng)) (frequencyAt freq (now («freq_s» .entry)) samples ch) (gainsAt (gains g0 (now («g0_s» .entry)) g1 (now («g1_s» .entry)) g2 (now («g2_s» .entry)) g3 (now («g3_s» .entry))) samples ch) samples ⌝ }
 {
-    if voice.count == 0 {
+    if set.count == 0 {
         silence(samples, out);
-        return voice.state;
+        return rng;
     }
-    sounding(
-        voice,
+    all_tones(
+        set,
+        f0_hz,
+        stretch,
+        mainlobe_gain,
+        partials,
+        phases,
+        samples,
+        freq,
+        freq_s,
+        g0,
+        g0_s,
+        g1,
+        g1_s,
+        g2,
+        g2_s,
+        g3,
+        g3_s,
+        ch,
+        out,
+    );
+    if set.live_count == 0 {
+        return rng;
+    }
+    noises(
+        set,
+        live,
+        f0_hz,
+        noise_gain,
+        noise,
+        bands,
+        compensation,
+        memories,
+        rng,
         samples,
         freq,
         freq_s,

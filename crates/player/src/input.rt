@@ -17,7 +17,12 @@ pub fn start_of(input: Input, len: usize, samples: usize, ch: usize) -> usize
 {
     match input {
         Input::Unconnected => 0,
-        Input::Channels(k) => (ch % k) * samples,
+        Input::Channels(k) => {
+            if ch < k {
+                return ch * samples;
+            }
+            (ch % k) * samples
+        }
     }
 }
 

@@ -18,19 +18,17 @@ pub struct Pitch {
     pub s: Sides,
     pub stretch: f32,
     pub mainlobe: f32,
-    pub noise_gain: f32,
 }
 
 pub fn pitch_at<'a>(
     f0_hz: &'a [f32; 16],
     stretch: &'a [f32; 16],
     mainlobe_gain: &'a [f32; 16],
-    noise_gain: &'a [f32; 16],
     count: usize,
     f0: f32,
 ) -> Pitch
     requires { ⌜ (1 ≤ count) × (count ≤ 16) × (every (λ i. pitchOk (getD (now «f0_hz») i nan)) count ≡ true) × (every (λ i. stretchOk (getD (now stretch) i nan)) count ≡ true) × Within 20000 1 f0 ⌝ }
-    ensures { λ r. ⌜ (r .f0 ≡ f0) × (r .s ≡ sidesOf (bracketOf (now («f0_hz» .entry)) count f0)) × (r .stretch ≡ between (now (stretch .entry)) (r .s)) × (r .mainlobe ≡ between (now («mainlobe_gain» .entry)) (r .s)) × (r .«noise_gain» ≡ between (now («noise_gain» .entry)) (r .s)) ⌝ }
+    ensures { λ r. ⌜ (r .f0 ≡ f0) × (r .s ≡ sidesOf (bracketOf (now («f0_hz» .entry)) count f0)) × (r .stretch ≡ between (now (stretch .entry)) (r .s)) × (r .mainlobe ≡ between (now («mainlobe_gain» .entry)) (r .s)) ⌝ }
     ensures { λ r. ⌜ SidesIn 16 (r .s) × Within 8 1 (r .stretch) ⌝ }
 {
     let s = sides_at(f0_hz, count, f0);
@@ -39,6 +37,5 @@ pub fn pitch_at<'a>(
         s,
         stretch: stretch_between(stretch, s),
         mainlobe: value_between(mainlobe_gain, s),
-        noise_gain: value_between(noise_gain, s),
     }
 }

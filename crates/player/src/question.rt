@@ -6,13 +6,13 @@ ghost use lib.ListN.{length, getD};
 ghost use lib.Ieee.{nan};
 ghost use Rattle.player.specs.Lists.{every};
 ghost use Rattle.player.specs.Input.{inputOk, frequencyOk, frequenciesOk};
-ghost use Rattle.player.specs.Voice.{keepsRules};
+ghost use Rattle.player.specs.Parts.{rulesOf};
 ghost use Rattle.player.specs.Play.{blockOk, ask};
 use crate::input::Input;
 use crate::input::input_ok;
 use crate::rules::both;
-use crate::rules::keeps_rules;
-use crate::voice::Voice;
+use crate::rules::rules_of;
+use crate::voice::Setting;
 
 // Question 16 of one frequency.
 fn frequency_ok(f: f32) -> bool
@@ -92,8 +92,12 @@ fn inputs_ok(
 }
 
 // The first of questions 13 to 16 that is answered no, or 0.
-pub fn play_question(
-    voice: Voice,
+pub fn play_question<'a>(
+    set: Setting,
+    live: &'a [usize; 16],
+    f0_hz: &'a [f32; 16],
+    stretch: &'a [f32; 16],
+    phases: &'a [f32; 32],
     samples: usize,
     freq: Input,
     freq_s: &[f32],
@@ -108,9 +112,9 @@ pub fn play_question(
     channels: usize,
     len: usize,
 ) -> u32
-    ensures { λ r. ⌜ r ≡ ask (keepsRules voice) 13 (ask (blockOk samples channels len) 14 (ask (inputOk freq samples (length (now («freq_s» .entry))) && (inputOk g0 samples «g0_len» && (inputOk g1 samples «g1_len» && (inputOk g2 samples «g2_len» && inputOk g3 samples «g3_len»)))) 15 (ask (frequenciesOk freq (now («freq_s» .entry))) 16 0))) ⌝ }
+    ensures { λ r. ⌜ r ≡ ask (rulesOf set (now (live .entry)) (now («f0_hz» .entry)) (now (stretch .entry)) (now (phases .entry))) 13 (ask (blockOk samples channels len) 14 (ask (inputOk freq samples (length (now («freq_s» .entry))) && (inputOk g0 samples «g0_len» && (inputOk g1 samples «g1_len» && (inputOk g2 samples «g2_len» && inputOk g3 samples «g3_len»)))) 15 (ask (frequenciesOk freq (now («freq_s» .entry))) 16 0))) ⌝ }
 {
-    if !keeps_rules(voice) {
+    if !rules_of(set, live, f0_hz, stretch, phases) {
         return 13;
     }
     if !block_ok(samples, channels, len) {

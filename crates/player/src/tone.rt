@@ -8,7 +8,7 @@ ghost use Rattle.wire.specs.Parse.{pick};
 ghost use Rattle.float.specs.F32.{_⊕_, _⊗_, nearest};
 ghost use Rattle.player.specs.Lists.{Filled, steps};
 ghost use Rattle.player.specs.Sound.{blendCoeff};
-ghost use Rattle.player.specs.Tuning.{heard, added};
+ghost use Rattle.player.specs.Columns.{heard, added};
 use crate::columns::fill;
 use crate::columns::sum_of;
 

@@ -15,8 +15,10 @@ ghost use Rattle.player.specs.Bracket.{SidesIn};
 ghost use Rattle.player.specs.Columns.{LiveIn};
 ghost use Rattle.player.specs.Voice.{pitchOk, stretchOk};
 ghost use Rattle.player.specs.Sound.{partialRow};
-ghost use Rattle.player.specs.Tuning.{Tuned};
+ghost use Rattle.player.specs.Tuning.{Tuned, NoiseTuned};
 use crate::bracket::Sides;
+use crate::bracket::sides_at;
+use crate::bracket::value_between;
 use crate::columns::all_up_to;
 use crate::fade::nyquist_fade;
 use crate::fixed::Fixed;
@@ -27,8 +29,12 @@ use crate::pitch::pitch_at;
 pub struct Tuning {
     pub f0: f32,
     pub mainlobe: f32,
-    pub noise_gain: f32,
     pub small: bool, // no step is above 31/32
+}
+
+pub struct NoiseTuning {
+    pub f0: f32,
+    pub noise_gain: f32,
 }
 
 // No frequency yet: a NaN is equal to none.
@@ -38,8 +44,16 @@ pub fn untuned() -> Tuning
     Tuning {
         f0: 0.0 / 0.0,
         mainlobe: 0.0,
-        noise_gain: 0.0,
         small: false,
+    }
+}
+
+pub fn noise_untuned() -> NoiseTuning
+    ensures { λ r. ⌜ r .f0 ≡ nan ⌝ }
+{
+    NoiseTuning {
+        f0: 0.0 / 0.0,
+        noise_gain: 0.0,
     }
 }
 
@@ -107,7 +121,7 @@ fn rows_in(blend: u32, k: usize) -> usize
     if blend == 0 { 1 } else { k }
 }
 
-// The columns for the frequency f0. `t` says for which they are now; `freqs` is lent to work in.
+// The partials' columns for the frequency f0. `t` says for which they are now; `freqs` is lent to work in.
 pub fn tune<'a>(
     t: Tuning,
     f0: f32,
@@ -115,36 +129,59 @@ pub fn tune<'a>(
     incs: &mut [f32; 32],
     fades: &mut [f32; 32],
     rows: &mut [f32; 128],
-    band_rows: &mut [f32; 128],
     x: Fixed,
     count: usize,
-    live_count: usize,
     f0_hz: &'a [f32; 16],
     stretch: &'a [f32; 16],
     mainlobe_gain: &'a [f32; 16],
-    noise_gain: &'a [f32; 16],
     partials: &'a [f32; 2048],
-    noise: &'a [f32; 1024],
-    live: &'a [usize; 16],
 ) -> Tuning
     requires { ⌜ (1 ≤ count) × (count ≤ 16) × (every (λ i. pitchOk (getD (now «f0_hz») i nan)) count ≡ true) × (every (λ i. stretchOk (getD (now stretch) i nan)) count ≡ true) × Within 20000 1 f0 ⌝ }
-    requires { ⌜ (x .m ≤ 32) × (x .k ≤ 4) × («live_count» ≤ 16) × LiveIn (now live) «live_count» × Within 1 4096 (x .inv) ⌝ }
-    requires { ⌜ (eq f0 (t .f0) ≡ true → Tuned x count «live_count» (now «f0_hz») (now stretch) (now «mainlobe_gain») (now «noise_gain») (now partials) (now noise) (now live) f0 (now incs) (now fades) (now rows) (now «band_rows») t) ⌝ }
-    ensures { λ r. ⌜ Tuned x count «live_count» (now («f0_hz» .entry)) (now (stretch .entry)) (now («mainlobe_gain» .entry)) (now («noise_gain» .entry)) (now (partials .entry)) (now (noise .entry)) (now (live .entry)) f0 (now (incs .exit)) (now (fades .exit)) (now (rows .exit)) (now («band_rows» .exit)) r ⌝ }
+    requires { ⌜ (x .m ≤ 32) × (x .k ≤ 4) × Within 1 4096 (x .inv) ⌝ }
+    requires { ⌜ (eq f0 (t .f0) ≡ true → Tuned x count (now «f0_hz») (now stretch) (now «mainlobe_gain») (now partials) f0 (now incs) (now fades) (now rows) t) ⌝ }
+    ensures { λ r. ⌜ Tuned x count (now («f0_hz» .entry)) (now (stretch .entry)) (now («mainlobe_gain» .entry)) (now (partials .entry)) f0 (now (incs .exit)) (now (fades .exit)) (now (rows .exit)) r ⌝ }
 {
     if f0 == t.f0 {
         return t;
     }
-    let p = pitch_at(f0_hz, stretch, mainlobe_gain, noise_gain, count, f0);
+    let p = pitch_at(f0_hz, stretch, mainlobe_gain, count, f0);
     let k = rows_in(x.blend, x.k);
     steps_of(freqs, incs, x.m, f0, p.stretch, x.inv);
     fades_of(fades, freqs, x.m, x.nyquist);
     rows_of(rows, partials, p.s, k, x.m);
-    noise_rows(band_rows, noise, live, p.s, k, live_count);
     Tuning {
         f0,
         mainlobe: p.mainlobe,
-        noise_gain: p.noise_gain,
         small: all_up_to(incs, x.m, 0.96875),
+    }
+}
+
+// The live bands' columns for the frequency f0.
+pub fn tune_noise<'a>(
+    was: NoiseTuning,
+    f0: f32,
+    rows: &mut [f32; 128],
+    x: Fixed,
+    count: usize,
+    live_count: usize,
+    f0_hz: &'a [f32; 16],
+    noise_gain: &'a [f32; 16],
+    noise: &'a [f32; 1024],
+    live: &'a [usize; 16],
+) -> NoiseTuning
+    requires { ⌜ (1 ≤ count) × (count ≤ 16) × (every (λ i. pitchOk (getD (now «f0_hz») i nan)) count ≡ true) × Within 20000 1 f0 ⌝ }
+    requires { ⌜ (x .k ≤ 4) × («live_count» ≤ 16) × LiveIn (now live) «live_count» ⌝ }
+    requires { ⌜ (eq f0 (was .f0) ≡ true → NoiseTuned x count «live_count» (now «f0_hz») (now «noise_gain») (now noise) (now live) f0 (now rows) was) ⌝ }
+    ensures { λ r. ⌜ NoiseTuned x count «live_count» (now («f0_hz» .entry)) (now («noise_gain» .entry)) (now (noise .entry)) (now (live .entry)) f0 (now (rows .exit)) r ⌝ }
+{
+    if f0 == was.f0 {
+        return was;
+    }
+    let s = sides_at(f0_hz, count, f0);
+    let k = rows_in(x.blend, x.k);
+    noise_rows(rows, noise, live, s, k, live_count);
+    NoiseTuning {
+        f0,
+        noise_gain: value_between(noise_gain, s),
     }
 }

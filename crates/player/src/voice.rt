@@ -33,3 +33,16 @@ pub struct Voice {
     pub compensation: [f32; 16],
     pub state: State,
 }
+
+// A voice's numbers, beside which its lists are lent.
+#[repr(C)]
+pub struct Setting {
+    pub blend: u32,
+    pub channel: u32,
+    pub count: usize,
+    pub k: usize,
+    pub m: usize,
+    pub j: usize,
+    pub live_count: usize,
+    pub sample_rate: f32,
+}

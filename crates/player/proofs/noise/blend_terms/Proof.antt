@@ -9,7 +9,7 @@ use lib.Seq.{set-set, lt-length-set}
 use lib.Ieee.{Float, nan, ofBits, neg, round}
 use Rattle.float.specs.F32.{_⊗_}
 use Rattle.player.specs.Columns.{minusZero, blendTerm}
-use Rattle.player.proofs.ColumnLaws.{filled-none, filled-again, filled-full, Kept, kept-all, kept-again, silent, heard}
+use Rattle.player.proofs.ColumnLaws.{filled-none, filled-again, filled-full, Kept, kept-all, kept-again, silent-is, heard-is}
 use borrow.Author.Needs.{needs}
 use Rattle.player.proofs.noise.blend_terms.Statement.{statement}
 use Rattle.player.proofs.noise.blend_terms.Tie as tie
@@ -83,7 +83,7 @@ loop-again c =
     let power = getD (a .powers .now) l nan in
     let term = getD s l nan ⊗ a .noise-gain ⊗ getD (a .makeup .now) l nan ⊗ getD (a .ys .now) l nan in
     let e : c .if1 .s ≡ set s l (blendTerm power (getD s l nan) (a .noise-gain) (getD (a .makeup .now) l nan) (getD (a .ys .now) l nan)) =
-    ⊎-elim (λ w. w .1 ∙ set-set s l term minusZero ∙ ap (λ (z : Float). set s l z) (silent power term (w .0 .taken))) (λ w. w .1 ∙ ap (λ (z : Float). set s l z) (heard power term (w .0 .left))) (c .if1 .came) in
+    ⊎-elim (λ w. w .1 ∙ set-set s l term minusZero ∙ ap (λ (z : Float). set s l z) (silent-is power term (w .0 .taken))) (λ w. w .1 ∙ ap (λ (z : Float). set s l z) (heard-is power term (w .0 .left))) (c .if1 .came) in
     let k = ap (λ (z : Float). blendTerm power z (a .noise-gain) (getD (a .makeup .now) l nan) (getD (a .ys .now) l nan)) (I .2 .at l (omega arith)) in (
       omega (arith, b5 .loop-test .taken),
       ap length e ∙ simp length-set (I .1),

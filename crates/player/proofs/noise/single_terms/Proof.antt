@@ -9,7 +9,7 @@ use lib.Seq.{set-set, lt-length-set}
 use lib.Ieee.{Float, nan, ofBits, neg, round}
 use Rattle.float.specs.F32.{_⊗_}
 use Rattle.player.specs.Columns.{minusZero, singleTerm}
-use Rattle.player.proofs.ColumnLaws.{filled-none, filled-again, filled-full, silent, heard}
+use Rattle.player.proofs.ColumnLaws.{filled-none, filled-again, filled-full, silent-is, heard-is}
 use borrow.Author.Needs.{needs}
 use Rattle.player.proofs.noise.single_terms.Statement.{statement}
 use Rattle.player.proofs.noise.single_terms.Tie as tie
@@ -82,7 +82,7 @@ loop-again c =
     let coeff = getD (a .rows .now) l nan in
     let term = coeff ⊗ a .noise-gain ⊗ a .gain ⊗ getD (a .makeup .now) l nan ⊗ getD (a .ys .now) l nan in
     let e : c .if1 .s ≡ set s l (singleTerm coeff (a .gain) (a .noise-gain) (getD (a .makeup .now) l nan) (getD (a .ys .now) l nan)) =
-    ⊎-elim (λ w. w .1 ∙ set-set s l term minusZero ∙ ap (λ (z : Float). set s l z) (silent coeff term (w .0 .taken))) (λ w. w .1 ∙ ap (λ (z : Float). set s l z) (heard coeff term (w .0 .left))) (c .if1 .came) in
+    ⊎-elim (λ w. w .1 ∙ set-set s l term minusZero ∙ ap (λ (z : Float). set s l z) (silent-is coeff term (w .0 .taken))) (λ w. w .1 ∙ ap (λ (z : Float). set s l z) (heard-is coeff term (w .0 .left))) (c .if1 .came) in
     (omega (arith, b5 .loop-test .taken), ap length e ∙ simp length-set (I .1), rw e (filled-again _ s l _ (omega (arith, b5 .loop-test .taken, b8 .pre, I .1)) refl (I .2)))
 
 returns : tie.Need-returns Inv-loop μ-loop

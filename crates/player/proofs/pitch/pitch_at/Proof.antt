@@ -34,17 +34,11 @@ value-between-requires c κs =
     let b1 = c .before in
     wide b1
 
-value-between-requires-2 : tie.Need-value-between-requires-2
-value-between-requires-2 c κs =
-    let b2 = c .before .before in
-    wide b2
-
 returns : tie.Need-returns
 returns c =
     let b1 = c .before in
     let b2 = b1 .before in
-    let b3 = b2 .before in
-    ((refl, b3 .sides-at .ensures .0, b2 .stretch-between .ensures .0, b1 .value-between .ensures, c .value-between2 .ensures), (wide b3, b2 .stretch-between .ensures .1))
+    ((refl, b2 .sides-at .ensures .0, b1 .stretch-between .ensures .0, c .value-between .ensures), (wide b2, b1 .stretch-between .ensures .1))
 
 pub pitch-at-spec : {M : Type 1} → statement M
 pitch-at-spec =
@@ -53,5 +47,4 @@ pitch-at-spec =
     sides-at-requires
     stretch-between-requires
     value-between-requires
-    value-between-requires-2
     returns)

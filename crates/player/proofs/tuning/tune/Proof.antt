@@ -31,29 +31,21 @@ rows-of-requires c κs =
     let b11 = b8 .before .before .before in
     (b8 .pitch-at .ensures .1 .0, b7 .rows-in .ensures .1, b11 .pre .1 .0 .0)
 
-noise-rows-requires : tie.Need-noise-rows-requires
-noise-rows-requires c κs =
-    let b9 = c .before .before .before .before .before .before .before .before .before in
-    let b10 = b9 .before in
-    let b13 = b10 .before .before .before in
-    (b10 .pitch-at .ensures .1 .0, b9 .rows-in .ensures .1, b13 .pre .1 .0 .2, b13 .pre .1 .0 .3)
-
 all-up-to-requires : tie.Need-all-up-to-requires
 all-up-to-requires c κs =
-    let b15 = c .before .before .before .before .before .before .before .before .before .before .before .before .before .before .before in
-    b15 .pre .1 .0 .0
+    let b13 = c .before .before .before .before .before .before .before .before .before .before .before .before .before in
+    b13 .pre .1 .0 .0
 
 returns-2 : tie.Need-returns-2
 unfolding ofBits round
 returns-2 c =
     let b2 = c .before .before in
     let b4 = b2 .before .before in
-    let b6 = b4 .before .before in
-    let b9 = b6 .before .before .before in
-    let b12 = b9 .before .before .before in
-    let b13 = b12 .before in
-    let b16 = b13 .before .before .before in
-    tuned-is _ _ _ _ _ _ _ _ _ _ _ _ (b13 .pitch-at .ensures .0) _ _ _ _ _ _ _ (b13 .pitch-at .ensures .1 .1) (b16 .pre .0 .4) (b16 .pre .1 .0 .4) (b16 .pre .1 .0 .0) (b12 .rows-in .ensures .0) (b9 .steps-of .ensures .0) (b9 .steps-of .ensures .1) (b6 .fades-of .ensures) (b4 .rows-of .ensures) (b2 .noise-rows .ensures) (c .all-up-to .ensures)
+    let b7 = b4 .before .before .before in
+    let b10 = b7 .before .before .before in
+    let b11 = b10 .before in
+    let b14 = b11 .before .before .before in
+    tuned-is _ _ _ _ _ _ _ _ (b11 .pitch-at .ensures .0) _ _ _ _ _ _ (b11 .pitch-at .ensures .1 .1) (b14 .pre .0 .4) (b14 .pre .1 .0 .2) (b14 .pre .1 .0 .0) (b10 .rows-in .ensures .0) (b7 .steps-of .ensures .0) (b7 .steps-of .ensures .1) (b4 .fades-of .ensures) (b2 .rows-of .ensures) (c .all-up-to .ensures)
 
 pub tune-spec : {M : Type 1} → statement M
 tune-spec =
@@ -65,6 +57,5 @@ tune-spec =
     steps-of-requires
     fades-of-requires
     rows-of-requires
-    noise-rows-requires
     all-up-to-requires
     returns-2)

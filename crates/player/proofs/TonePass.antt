@@ -1,0 +1,131 @@
+-- The pass over the partials: from sample to sample the columns hold the phases of the definitions, and each sum is `partialSum`'s.
+use mathlib.Core.Path.{_≡_, refl, sym, ap, _∙_}
+use mathlib.Core.List.{List, _++_}
+use mathlib.Core.Bool.{true}
+use Prim.Native.Nat.{ℕ, _+_, _*_, _≤_, _<_}
+use native.Mathlib.Omega.{arith}
+use lib.ListN.{length, getD, set, drop}
+use lib.Dec.{T, eqb}
+use lib.Ieee.{Float, nan, binary32, eq, fits}
+use Rattle.wire.specs.Parse.{pick}
+use Rattle.float.specs.Range.{Within}
+use Rattle.float.specs.F32.{_⊗_, nearest}
+use Rattle.player.specs.Lists.{Filled, mapTo, upTo, steps}
+use Rattle.filters.specs.Wave.{sineOf}
+use Rattle.player.specs.Phase.{advanceOf, inverseOf, stepOf, partialFreq}
+use Rattle.player.specs.Fade.{nyquistFade}
+use Rattle.player.specs.Input.{cleaned}
+use Rattle.player.specs.Bracket.{between}
+use Rattle.player.specs.Voice.{phaseOk, phasesOk}
+use Rattle.player.specs.Sound.{sidesAt, partialRow, blendCoeff, addSingle, addBlend, partialTerm, partialSum, movedPhases}
+use Rattle.player.specs.Passes.{phasesAt, tonesOut}
+use Rattle.player.specs.Columns.{added}
+use Rattle.player.specs.declared.fixed.Fixed.{Fixed}
+use Rattle.player.specs.declared.pitch.Pitch.{Pitch}
+use Rattle.player.specs.declared.tuning.Tuning.{Tuning}
+use Rattle.player.specs.declared.voice.Voice.{Voice}
+use Rattle.player.proofs.Loops.{steps-again, every-at, at-every, mapTo-at, upTo-again, upTo-full}
+use Rattle.player.proofs.RangeLaws.{advance-ok, phase-passes, step-small}
+use Rattle.player.proofs.SoundLaws.{FixedOf, Facts, inverse-small, phase-inside}
+use Rattle.player.proofs.ToneLaws.{TunedTo, TunedVoice, tuned-voice, stays, untuned-none, moved-phases, phases-kept, tone-sound}
+
+-- the phases after a sample
+pub phases-again : (v : Voice) (freq : ℕ → Float) (i : ℕ) (ps qs : List Float) (f0 : Float) → ps ≡ phasesAt v freq i → f0 ≡ cleaned (freq i) → qs ≡ movedPhases v f0 ps → qs ≡ phasesAt v freq (i + 1)
+unfolding phasesAt
+phases-again v freq i ps qs f0 e ef eq = eq ∙ ap (λ (z : Float). movedPhases v z ps) ef ∙ steps-again (λ t ps. movedPhases v (cleaned (freq t)) ps) (v .state .phases) ps i e
+
+pub phases-first : (v : Voice) (freq : ℕ → Float) → v .state .phases ≡ phasesAt v freq 0
+unfolding phasesAt steps
+phases-first v freq = refl
+
+-- the samples: a turn of the loop writes one
+module _ (v : Voice) (freq : ℕ → Float) (g : ℕ → List Float) where
+  pub tones-first : (l : List Float) → l ≡ tonesOut v freq g 0 ++ drop 0 l
+  unfolding tonesOut upTo
+  tones-first l = refl
+
+  pub tones-again : (i : ℕ) (l ls : List Float) (y : Float) → i < length l → ls ≡ tonesOut v freq g i ++ drop i l → y ≡ partialSum v (cleaned (freq i)) (g i) (phasesAt v freq i)
+      → set ls i y ≡ tonesOut v freq g (i + 1) ++ drop (i + 1) l
+  unfolding tonesOut
+  tones-again i l ls y h e ey = ap (λ (z : Float). set ls i z) ey ∙ upTo-again (λ i. partialSum v (cleaned (freq i)) (g i) (phasesAt v freq i)) i l ls h e
+
+  pub tones-full : (i n : ℕ) (l ls ps : List Float) → i ≡ n → length l ≡ n → ls ≡ tonesOut v freq g i ++ drop i l → ps ≡ phasesAt v freq i → (ps ≡ phasesAt v freq n) × (ls ≡ tonesOut v freq g n)
+  unfolding tonesOut
+  tones-full i n l ls ps q h e p = (p ∙ ap (λ (z : ℕ). phasesAt v freq z) q, upTo-full (λ i. partialSum v (cleaned (freq i)) (g i) (phasesAt v freq i)) i n l ls q h e)
+
+module _ (v : Voice) (x : Fixed) (freq : ℕ → Float) where
+  -- before sample i the phases are those of the definitions, and the columns are tuned to every frequency that compares equal to t's
+  pub record Toning (i : ℕ) (phases incs fades rows : List Float) (t : Tuning) : Type 0 where
+    pub phases-are : phases ≡ phasesAt v freq i
+    pub ok : phasesOk phases (v .m) ≡ true
+    pub tuned : (f : Float) → T (fits binary32 f) → Within 20000 1 f → eq f (t .f0) ≡ true → TunedTo v x f incs fades rows t
+
+module _ (v : Voice) (x : Fixed) (X : FixedOf v x) (freq : ℕ → Float) (g : ℕ → List Float) where
+  pub toning-first : (incs fades rows : List Float) (t : Tuning) → phasesOk (v .state .phases) (v .m) ≡ true → t .f0 ≡ nan → Toning v x freq 0 (v .state .phases) incs fades rows t
+  toning-first incs fades rows t h e = record {
+    phases-are = phases-first v freq;
+    ok = h;
+    tuned = λ f F W q. absurd (untuned-none f (ap (λ (z : Float). eq f z) (sym e) ∙ q));
+  }
+
+  -- one sample
+  module _ (i : ℕ) (phases incs₀ fades₀ rows₀ : List Float) (t₀ : Tuning) (G : Toning v x freq i phases incs₀ fades₀ rows₀ t₀) (f0 : Float) (ef : f0 ≡ cleaned (freq i)) (F : T (fits binary32 f0)) (W : Within 20000 1 f0)
+      (incs fades rows : List Float) (t : Tuning) (U : TunedTo v x f0 incs fades rows t) (qs : List Float) (Q : qs ≡ mapTo (λ i p. advanceOf p (getD incs i nan)) 0 (v .m) phases) where
+    held : TunedVoice v f0 incs fades rows t
+    held = tuned-voice v x X incs fades rows t f0 U
+
+    -- LAW: the columns hold the phases after the sample
+    pub toning-again : Toning v x freq (i + 1) qs incs fades rows t
+    toning-again = record {
+      phases-are = phases-again v freq i phases qs f0 (G .phases-are) ef (moved-phases v f0 incs fades rows t held phases qs (G .ok) Q);
+      ok = phases-kept v f0 incs fades rows t held phases qs (G .ok) Q;
+      tuned = stays v x X incs fades rows t f0 F W U;
+    }
+
+    -- LAW: what is stored is the sum of the partials
+    pub sounds : (h sines : List Float) (y : Float) → h ≡ g i → Filled sines (λ i. sineOf (getD qs i nan)) (v .m)
+        → y ≡ steps (λ i y. pick (eqb (v .blend) 0) (added y (getD rows i nan) (getD rows i nan ⊗ t .mainlobe ⊗ getD fades i nan ⊗ getD h 0 nan ⊗ getD sines i nan)) (added y (blendCoeff (λ q. getD rows (q * 32 + i) nan) h (v .k)) (blendCoeff (λ q. getD rows (q * 32 + i) nan) h (v .k) ⊗ t .mainlobe ⊗ getD fades i nan ⊗ getD sines i nan))) (nearest 0 1) (v .m)
+        → y ≡ partialSum v (cleaned (freq i)) (g i) (phasesAt v freq i)
+    sounds h sines y eh A e =
+        tone-sound v f0 incs fades rows t held phases qs (G .ok) Q h sines A y e
+        ∙ ap (λ (z : List Float). partialSum v f0 h z) (G .phases-are) ∙ ap (λ (z : Float). partialSum v z h (phasesAt v freq i)) ef ∙ ap (λ (z : List Float). partialSum v (cleaned (freq i)) z (phasesAt v freq i)) eh
+
+-- ---- few partials: one after the other
+abbrev pub PitchOf : Voice → Float → Pitch → Type 0
+PitchOf v f0 p = (p .f0 ≡ f0) × (p .s ≡ sidesAt v f0) × (p .stretch ≡ between (v .stretch) (p .s)) × (p .mainlobe ≡ between (v .«mainlobe_gain») (p .s))
+
+-- LAW: phases that pass the test step to phases that pass it
+phases-step : (m : ℕ) (f0 stretch inv : Float) (ps : List Float) → m ≤ 32 → Within 20000 1 f0 → Within 8 1 stretch → Within 1 4096 inv → phasesOk ps m ≡ true
+    → phasesOk (mapTo (λ i p. advanceOf p (stepOf (i + 1) f0 stretch inv)) 0 m ps) m ≡ true
+unfolding phasesOk
+phases-step m f0 stretch inv ps M F S I h =
+    at-every (λ i. phaseOk (getD (mapTo (λ i p. advanceOf p (stepOf (i + 1) f0 stretch inv)) 0 m ps) i nan)) m
+    (λ i l.
+    let o = every-at (λ i. phaseOk (getD ps i nan)) m i h l in
+    ap (λ (z : Float). phaseOk z) (mapTo-at (λ i p. advanceOf p (stepOf (i + 1) f0 stretch inv)) nan m i ps l (phase-inside ps m i h l))
+    ∙ phase-passes _ (advance-ok (getD ps i nan) (stepOf (i + 1) f0 stretch inv) o (step-small (i + 1) f0 stretch inv (omega arith) F S I)))
+
+module _ (v : Voice) (f0 : Float) (x : Fixed) (p : Pitch) (X : FixedOf v x) (P : PitchOf v f0 p) where
+  -- LAW: what `tone_of` answers is the sum of the partials
+  pub tone-is : (g ps : List Float) (y : Float)
+      → y ≡ steps (λ i y. pick (eqb (x .blend) 0) (addSingle y (partialRow (v .partials) (p .s) 0 i) (p .mainlobe) (nyquistFade (partialFreq (i + 1) (p .f0) (p .stretch)) (x .nyquist)) (getD g 0 nan) (advanceOf (getD ps i nan) (stepOf (i + 1) (p .f0) (p .stretch) (x .inv)))) (addBlend y (blendCoeff (λ q. partialRow (v .partials) (p .s) q i) g (x .k)) (p .mainlobe) (nyquistFade (partialFreq (i + 1) (p .f0) (p .stretch)) (x .nyquist)) (advanceOf (getD ps i nan) (stepOf (i + 1) (p .f0) (p .stretch) (x .inv))))) (nearest 0 1) (x .m)
+      → y ≡ partialSum v f0 g ps
+  unfolding partialSum partialTerm
+  tone-is g ps y e = e ∙ rw (X .0, X .1, X .2, X .3, X .4, P .2, P .3, P .1, P .0)
+
+  -- LAW: its phases are those after the sample
+  pub phases-is : (ps ls : List Float) → ls ≡ mapTo (λ i ph. advanceOf ph (stepOf (i + 1) (p .f0) (p .stretch) (x .inv))) 0 (x .m) ps → ls ≡ movedPhases v f0 ps
+  unfolding movedPhases
+  phases-is ps ls e = e ∙ rw (X .2, X .3, P .2, P .1, P .0)
+
+  -- LAW: and they pass the test of phases
+  pub phases-keep : (ps ls : List Float) → Facts v → Within 20000 1 f0 → Within 8 1 (p .stretch) → ls ≡ mapTo (λ i ph. advanceOf ph (stepOf (i + 1) (p .f0) (p .stretch) (x .inv))) 0 (x .m) ps → phasesOk ps (v .m) ≡ true
+      → phasesOk ls (v .m) ≡ true
+  phases-keep ps ls F W S e h =
+      let q : mapTo (λ i ph. advanceOf ph (stepOf (i + 1) (p .f0) (p .stretch) (x .inv))) 0 (x .m) ps ≡ mapTo (λ i ph. advanceOf ph (stepOf (i + 1) f0 (p .stretch) (inverseOf (v .«sample_rate»)))) 0 (v .m) ps = rw (P .0, X .3, X .2) in
+      ap (λ (z : List Float). phasesOk z (v .m)) (e ∙ q) ∙ phases-step (v .m) f0 (p .stretch) (inverseOf (v .«sample_rate»)) ps (F .sizes .1) W S (inverse-small v F) h
+
+  -- LAW: the sum is the definition's, where the phases were
+  pub few-sounds : (freq : ℕ → Float) (g : ℕ → List Float) (i : ℕ) (h ps : List Float) (y : Float) → f0 ≡ cleaned (freq i) → h ≡ g i → ps ≡ phasesAt v freq i → y ≡ partialSum v f0 h ps
+      → y ≡ partialSum v (cleaned (freq i)) (g i) (phasesAt v freq i)
+  few-sounds freq g i h ps y ef eh ep e = e ∙ rw (ef, eh, ep)
