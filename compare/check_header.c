@@ -18,6 +18,11 @@ _Static_assert(sizeof(struct sounder_made_answer) == 24 + 13368, "made answer");
 _Static_assert(offsetof(struct sounder_played_answer, voice) == 8, "played answer");
 _Static_assert(sizeof(struct sounder_played_answer) == 8 + 13368, "played answer");
 _Static_assert(sizeof(struct sounder_noise_power) == 8, "noise power");
+_Static_assert(sizeof(struct sounder_setting) == 56, "setting");
+_Static_assert(offsetof(struct sounder_setting, sample_rate) == 48, "setting");
+_Static_assert(sizeof(struct sounder_lent_answer) == 8, "lent answer");
+_Static_assert(offsetof(struct sounder_voice, compensation) - offsetof(struct sounder_voice, bands) == 80 * sizeof(float), "bands");
+_Static_assert(offsetof(struct sounder_state, noise) - offsetof(struct sounder_state, memories) == 32 * sizeof(float), "memories");
 
 static int failures;
 
@@ -75,6 +80,12 @@ int main(void)
     played = sounder_play(made.voice, 2, 1, freq, 2, 0, freq, 0, 0, freq, 0, 0, freq, 0, 0, freq, 0, 2, out, 4);
     expect(played.number == 0 && out[0] == 0 && out[3] == 0, "a block of an entry whose coefficients are 0");
     expect(played.voice.state.noise != made.voice.state.noise && played.voice.state.memories[0].z1 != 0, "a block moves the voice");
+    struct sounder_voice own = made.voice;
+    float heard[4] = {7, 7, 7, 7};
+    expect(sounder_play_in(&own, 2, 1, high, 2, 0, freq, 0, 0, freq, 0, 0, freq, 0, 0, freq, 0, 2, heard, 4) == 16, "a refused block of a voice where it lies");
+    expect(memcmp(&own, &made.voice, sizeof own) == 0 && heard[0] == 7 && heard[3] == 7, "it changes nothing");
+    expect(sounder_play_in(&own, 2, 1, freq, 2, 0, freq, 0, 0, freq, 0, 0, freq, 0, 0, freq, 0, 2, heard, 4) == 0, "a block of a voice where it lies");
+    expect(memcmp(&own, &played.voice, sizeof own) == 0 && memcmp(heard, out, sizeof out) == 0, "it is the block of the voice by value");
     played = sounder_reseed(played.voice, 0);
     expect(played.number == 0 && played.voice.state.noise == 1 && played.voice.state.memories[0].z1 == 0, "a reseed");
     played = sounder_reset(played.voice);

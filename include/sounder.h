@@ -1,7 +1,7 @@
 /* The crossing sounder for C: images of coefficient tables, read and rewritten, and voices, made and played.
  *
  * Every function answers for every argument; none allocates, and none writes but to the target or
- * the output that it is lent. Voices go in and out by value.
+ * the output that it is lent, or sounder_play_lent to the running state. Voices go in and out by value, or are played where they lie.
  * A slice is a pointer and a length in elements. A pointer may not be null, also where its length is 0. */
 #ifndef SOUNDER_H
 #define SOUNDER_H
@@ -101,6 +101,24 @@ struct sounder_played_answer {
     struct sounder_voice voice;
 };
 
+/* A voice's numbers: the first fields of sounder_voice and its sample rate. */
+struct sounder_setting {
+    uint32_t blend;
+    uint32_t channel;
+    size_t count;
+    size_t k;
+    size_t m;
+    size_t j;
+    size_t live_count;
+    float sample_rate;
+};
+
+/* The answer of sounder_play_lent: 0 or the number of the question that was answered no, and the noise number after the call. */
+struct sounder_lent_answer {
+    uint32_t number;
+    uint32_t noise;
+};
+
 /* The power that white noise has after a band, and how many times the band was rung for it. */
 struct sounder_noise_power {
     float power;
@@ -131,6 +149,39 @@ struct sounder_played_answer sounder_play(struct sounder_voice voice, size_t sam
                                           size_t g0_channels, const float *g0, size_t g0_len, size_t g1_channels, const float *g1, size_t g1_len,
                                           size_t g2_channels, const float *g2, size_t g2_len, size_t g3_channels, const float *g3, size_t g3_len,
                                           size_t channels, float *out, size_t out_len);
+
+/* The same with the voice's lists where they lie: nothing is copied, which tells in short blocks. Bands are five floats each, memories two.
+ * Only phases, memories and the output are written; none of the three may overlap another argument. sounder_play_in hands it a voice. */
+struct sounder_lent_answer sounder_play_lent(struct sounder_setting set, const size_t live[16], const float f0_hz[16], const float stretch[16],
+                                             const float mainlobe_gain[16], const float noise_gain[16], const float partials[2048],
+                                             const float noise[1024], const float bands[80], const float compensation[16], float phases[32],
+                                             float memories[32], uint32_t noise_number, size_t samples, size_t freq_channels, const float *freq,
+                                             size_t freq_len, size_t g0_channels, const float *g0, size_t g0_len, size_t g1_channels,
+                                             const float *g1, size_t g1_len, size_t g2_channels, const float *g2, size_t g2_len,
+                                             size_t g3_channels, const float *g3, size_t g3_len, size_t channels, float *out, size_t out_len);
+
+/* Plays a block of the voice itself, which moves on; a refusal, whose number is answered, leaves it as it is. */
+static inline uint32_t sounder_play_in(struct sounder_voice *v, size_t samples, size_t freq_channels, const float *freq, size_t freq_len,
+                                       size_t g0_channels, const float *g0, size_t g0_len, size_t g1_channels, const float *g1, size_t g1_len,
+                                       size_t g2_channels, const float *g2, size_t g2_len, size_t g3_channels, const float *g3, size_t g3_len,
+                                       size_t channels, float *out, size_t out_len)
+{
+    struct sounder_setting set;
+    struct sounder_lent_answer a;
+    set.blend = v->blend;
+    set.channel = v->channel;
+    set.count = v->count;
+    set.k = v->k;
+    set.m = v->m;
+    set.j = v->j;
+    set.live_count = v->live_count;
+    set.sample_rate = v->sample_rate;
+    a = sounder_play_lent(set, v->live, v->f0_hz, v->stretch, v->mainlobe_gain, v->noise_gain, v->partials, v->noise, (const float *)v->bands, v->compensation,
+                          v->state.phases, (float *)v->state.memories, v->state.noise, samples, freq_channels, freq, freq_len, g0_channels, g0, g0_len,
+                          g1_channels, g1, g1_len, g2_channels, g2, g2_len, g3_channels, g3, g3_len, channels, out, out_len);
+    v->state.noise = a.noise;
+    return a.number;
+}
 
 /* Phases and memories 0, and the default seed. */
 struct sounder_played_answer sounder_reset(struct sounder_voice voice);

@@ -106,6 +106,26 @@ mod voices {
     }
 
     #[repr(C)]
+    #[derive(Clone, Copy)]
+    pub struct Setting {
+        blend: u32,
+        channel: u32,
+        count: usize,
+        k: usize,
+        m: usize,
+        j: usize,
+        live_count: usize,
+        sample_rate: f32,
+    }
+
+    #[repr(C)]
+    #[derive(Clone, Copy)]
+    pub struct LentAnswer {
+        pub number: u32,
+        pub noise: u32,
+    }
+
+    #[repr(C)]
     #[derive(Clone, Copy, Debug)]
     pub struct NoisePower {
         pub power: f32,
@@ -143,6 +163,41 @@ mod voices {
                 out: *mut f32,
                 out_len: usize,
             ) -> PlayedAnswer;
+            #[rustfmt::skip]
+            pub fn sounder_play_lent(
+                set: Setting,
+                live: *const usize,
+                f0_hz: *const f32,
+                stretch: *const f32,
+                mainlobe_gain: *const f32,
+                noise_gain: *const f32,
+                partials: *const f32,
+                noise: *const f32,
+                bands: *const f32,
+                compensation: *const f32,
+                phases: *mut f32,
+                memories: *mut f32,
+                noise_number: u32,
+                samples: usize,
+                freq_channels: usize,
+                freq: *const f32,
+                freq_len: usize,
+                g0_channels: usize,
+                g0: *const f32,
+                g0_len: usize,
+                g1_channels: usize,
+                g1: *const f32,
+                g1_len: usize,
+                g2_channels: usize,
+                g2: *const f32,
+                g2_len: usize,
+                g3_channels: usize,
+                g3: *const f32,
+                g3_len: usize,
+                channels: usize,
+                out: *mut f32,
+                out_len: usize,
+            ) -> LentAnswer;
             pub fn sounder_reset(voice: Voice) -> PlayedAnswer;
             pub fn sounder_reseed(voice: Voice, seed: u32) -> PlayedAnswer;
             pub fn sounder_noise_power_gain(freq: f32, q: f32, rate: f32, coeffs: Coeffs) -> NoisePower;
@@ -162,6 +217,22 @@ mod voices {
                 g[2].0, g[2].1.as_ptr(), g[2].1.len(), g[3].0, g[3].1.as_ptr(), g[3].1.len(), channels, out.as_mut_ptr(), out.len(),
             )
         }
+    }
+
+    // The same of the voice where it lies: it moves on, and the number is answered.
+    #[rustfmt::skip]
+    pub fn play_in(v: &mut Voice, samples: usize, freq: (usize, &[f32]), g: [(usize, &[f32]); 4], channels: usize, out: &mut [f32]) -> u32 {
+        let set = Setting { blend: v.blend, channel: v.channel, count: v.count, k: v.k, m: v.m, j: v.j, live_count: v.live_count, sample_rate: v.sample_rate };
+        let a = unsafe {
+            c::sounder_play_lent(
+                set, v.live.as_ptr(), v.f0_hz.as_ptr(), v.stretch.as_ptr(), v.mainlobe_gain.as_ptr(), v.noise_gain.as_ptr(), v.partials.as_ptr(),
+                v.noise.as_ptr(), v.bands.as_ptr().cast(), v.compensation.as_ptr(), v.state.phases.as_mut_ptr(), v.state.memories.as_mut_ptr().cast(),
+                v.state.noise, samples, freq.0, freq.1.as_ptr(), freq.1.len(), g[0].0, g[0].1.as_ptr(), g[0].1.len(), g[1].0, g[1].1.as_ptr(), g[1].1.len(),
+                g[2].0, g[2].1.as_ptr(), g[2].1.len(), g[3].0, g[3].1.as_ptr(), g[3].1.len(), channels, out.as_mut_ptr(), out.len(),
+            )
+        };
+        v.state.noise = a.noise;
+        a.number
     }
 
     pub fn reset(v: &Voice) -> PlayedAnswer {

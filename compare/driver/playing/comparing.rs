@@ -84,8 +84,22 @@ pub fn lent(i: &Input) -> (usize, &[f32]) {
     (i.0, &i.1)
 }
 
-pub fn our_play(v: &Voice, p: &Play, out: &mut [f32]) -> ffi::PlayedAnswer {
-    ffi::play(v, p.samples, lent(&p.freq), std::array::from_fn(|g| lent(&p.gains[g])), p.channels, out)
+// A block of the voice where it lies.
+pub fn play_in(v: &mut Voice, p: &Play, out: &mut [f32]) -> u32 {
+    ffi::play_in(v, p.samples, lent(&p.freq), std::array::from_fn(|g| lent(&p.gains[g])), p.channels, out)
+}
+
+// The same of the voice by value; both ways must give the same voice, samples and number, bit for bit.
+pub fn our_play(v: &Voice, p: &Play, out: &mut [f32]) -> Result<ffi::PlayedAnswer, String> {
+    let (mut own, mut heard) = (*v, out.to_vec());
+    let number = play_in(&mut own, p, &mut heard);
+    let got = ffi::play(v, p.samples, lent(&p.freq), std::array::from_fn(|g| lent(&p.gains[g])), p.channels, out);
+    numbers("number of a play in place", number, got.number)?;
+    floats("samples of a play in place", &heard, out)?;
+    if bytes(&own) != bytes(&got.voice) {
+        return Err("a play in place leaves another voice".into());
+    }
+    Ok(got)
 }
 
 // A voice that breaks a rule of document 01, or nearly does.
@@ -147,7 +161,7 @@ pub fn check_call(v: &mut Voice, p: &mut Theirs, call: &Call, rate: f32, tally: 
             let q = play_question(v, c);
             tally.number(q);
             let mut out = filling(c.out_len);
-            let got = our_play(v, c, &mut out);
+            let got = our_play(v, c, &mut out)?;
             if q != 0 {
                 tally.paper += 1;
                 floats("output of a refused play", &out, &filling(c.out_len))?;
@@ -184,7 +198,7 @@ pub fn check_call(v: &mut Voice, p: &mut Theirs, call: &Call, rate: f32, tally: 
             tally.number(13);
             tally.paper += 1;
             let mut out = filling(c.out_len);
-            refusal("play of a broken voice", 13, &our_play(&b, c, &mut out), &b)?;
+            refusal("play of a broken voice", 13, &our_play(&b, c, &mut out)?, &b)?;
             floats("output of a refused play", &out, &filling(c.out_len))?;
             refusal("reset of a broken voice", 13, &ffi::reset(&b), &b)?;
             return refusal("reseed of a broken voice", 13, &ffi::reseed(&b, 7), &b);

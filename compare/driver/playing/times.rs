@@ -56,7 +56,9 @@ fn playing(race: &Race, what: &str, s: &Setup, channels: usize, n: usize, glidin
     race.line(
         what,
         (channels * n) as f64,
-        || v = black_box(our_play(&v, black_box(&c), &mut out)).voice,
+        || {
+            black_box(play_in(&mut v, black_box(&c), &mut out));
+        },
         || p.ugen().process(&ctx, black_box(&lent[..used]), black_box(&mut their)),
     );
 }

@@ -10,13 +10,13 @@ ghost use Rattle.sounder.specs.Answer.{refusalAnswer, kindOf};
 ghost use Rattle.sounder.specs.Player.{madeAnswer, playedAnswer, inputOf};
 use crate::answer::Answer;
 use crate::answer::refused;
+use crate::input::input_of;
 use crate::kind::kind_of;
-use filters::BiquadCoeffs;
 use filters::NoisePower;
 use filters::biquad_noise_power_gain;
 use making::MakeAnswer;
 use making::make;
-use player::Input;
+use player::BiquadCoeffs;
 use player::PlayAnswer;
 use player::Voice;
 use player::play;
@@ -84,17 +84,6 @@ fn play_number(a: PlayAnswer) -> u32
         PlayAnswer::BadBlock => 14,
         PlayAnswer::BadInput => 15,
         PlayAnswer::BadFrequency => 16,
-    }
-}
-
-// An input by its number of channels: 0 is unconnected.
-fn input_of(channels: usize) -> Input
-    ensures { λ r. ⌜ r ≡ inputOf channels ⌝ }
-{
-    if channels == 0 {
-        Input::Unconnected
-    } else {
-        Input::Channels(channels)
     }
 }
 

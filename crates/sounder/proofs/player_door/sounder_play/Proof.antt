@@ -3,45 +3,31 @@ use Rattle.sounder.specs.Player.{playedAnswer}
 use borrow.Author.Needs.{needs}
 use Rattle.sounder.proofs.player_door.sounder_play.Statement.{statement}
 use Rattle.sounder.proofs.player_door.sounder_play.Tie as tie
-use Rattle.sounder.proofs.player_door.sounder_play.Reads as reads
-use Rattle.sounder.proofs.player_door.sounder_play.Lts as lts
-use Rattle.player.proofs.play.Reads as play-reads
-use Rattle.sounder.proofs.player_door.input_of.Reads as input-of-reads
-use Rattle.sounder.proofs.player_door.play_number.Reads as play-number-reads
 
--- src/player_door.rt:142:9
 input-of-requires : tie.Need-input-of-requires
 input-of-requires c κs = search needs
 
--- src/player_door.rt:143:9
 input-of-requires-2 : tie.Need-input-of-requires-2
 input-of-requires-2 c κs = search needs
 
--- src/player_door.rt:144:9
 input-of-requires-3 : tie.Need-input-of-requires-3
 input-of-requires-3 c κs = search needs
 
--- src/player_door.rt:145:9
 input-of-requires-4 : tie.Need-input-of-requires-4
 input-of-requires-4 c κs = search needs
 
--- src/player_door.rt:146:9
 input-of-requires-5 : tie.Need-input-of-requires-5
 input-of-requires-5 c κs = search needs
 
--- src/player_door.rt:147:9
 play-requires : tie.Need-play-requires
 play-requires c κs = search needs
 
--- src/player_door.rt:166:17
 play-number-requires : tie.Need-play-number-requires
 play-number-requires c κs = search needs
 
--- src/player_door.rt:122:1
 same-length : tie.Need-same-length
 same-length c = search needs
 
--- src/player_door.rt:122:1
 returns : tie.Need-returns
 returns c =
     let b4 = c .before .before .before .before in

@@ -1,10 +1,10 @@
 use mathlib.Core.Path.{_≡_, refl, sym}
 use Rattle.sounder.proofs.PlayerLaws.{connected}
 use borrow.Author.Needs.{needs}
-use Rattle.sounder.proofs.player_door.input_of.Statement.{statement}
-use Rattle.sounder.proofs.player_door.input_of.Tie as tie
-use Rattle.sounder.proofs.player_door.input_of.Reads as reads
-use Rattle.sounder.proofs.player_door.input_of.Lts as lts
+use Rattle.sounder.proofs.input.input_of.Statement.{statement}
+use Rattle.sounder.proofs.input.input_of.Tie as tie
+use Rattle.sounder.proofs.input.input_of.Reads as reads
+use Rattle.sounder.proofs.input.input_of.Lts as lts
 
 -- src/player_door.rt:91:1
 returns : tie.Need-returns
