@@ -1,7 +1,7 @@
 -- The pass over the partials: from sample to sample the columns hold the phases of the definitions, and each sum is `partialSum`'s.
-use mathlib.Core.Path.{_≡_, refl, sym, ap, _∙_}
+use mathlib.Core.Path.{_≡_, refl, sym, ap, _∙_, subst}
 use mathlib.Core.List.{List, _++_}
-use mathlib.Core.Bool.{true}
+use mathlib.Core.Bool.{Bool, true, false}
 use Prim.Native.Nat.{ℕ, _+_, _*_, _≤_, _<_}
 use native.Mathlib.Omega.{arith}
 use lib.ListN.{length, getD, set, drop}
@@ -9,6 +9,7 @@ use lib.Dec.{T, eqb}
 use lib.Ieee.{Float, nan, binary32, eq, fits}
 use Rattle.wire.specs.Parse.{pick}
 use Rattle.float.specs.Range.{Within}
+use Rattle.float.proofs.Identities.{same-float}
 use Rattle.float.specs.F32.{_⊗_, nearest}
 use Rattle.player.specs.Lists.{Filled, mapTo, upTo, steps}
 use Rattle.filters.specs.Wave.{sineOf}
@@ -20,6 +21,7 @@ use Rattle.player.specs.Voice.{phaseOk, phasesOk}
 use Rattle.player.specs.Sound.{sidesAt, partialRow, blendCoeff, addSingle, addBlend, partialTerm, partialSum, movedPhases}
 use Rattle.player.specs.Passes.{phasesAt, tonesOut}
 use Rattle.player.specs.Columns.{added}
+use Rattle.player.specs.Tuning.{PitchAt}
 use Rattle.player.specs.declared.fixed.Fixed.{Fixed}
 use Rattle.player.specs.declared.pitch.Pitch.{Pitch}
 use Rattle.player.specs.declared.tuning.Tuning.{Tuning}
@@ -125,7 +127,29 @@ module _ (v : Voice) (f0 : Float) (x : Fixed) (p : Pitch) (X : FixedOf v x) (P :
       let q : mapTo (λ i ph. advanceOf ph (stepOf (i + 1) (p .f0) (p .stretch) (x .inv))) 0 (x .m) ps ≡ mapTo (λ i ph. advanceOf ph (stepOf (i + 1) f0 (p .stretch) (inverseOf (v .«sample_rate»)))) 0 (v .m) ps = rw (P .0, X .3, X .2) in
       ap (λ (z : List Float). phasesOk z (v .m)) (e ∙ q) ∙ phases-step (v .m) f0 (p .stretch) (inverseOf (v .«sample_rate»)) ps (F .sizes .1) W S (inverse-small v F) h
 
+  -- a single voice sounds by gain 0 alone
+  heard-alike : (ps g h : List Float) → getD h 0 nan ≡ getD g 0 nan → (eqb (v .blend) 0 ≡ false → h ≡ g) → partialSum v f0 h ps ≡ partialSum v f0 g ps
+  unfolding partialSum partialTerm
+  heard-alike ps g h e k = go (eqb (v .blend) 0) refl
+    where
+      go : (b : Bool) → eqb (v .blend) 0 ≡ b → partialSum v f0 h ps ≡ partialSum v f0 g ps
+      go true q = rw (q, e)
+      go false q = ap (λ (z : List Float). partialSum v f0 z ps) (k q)
+
   -- LAW: the sum is the definition's, where the phases were
-  pub few-sounds : (freq : ℕ → Float) (g : ℕ → List Float) (i : ℕ) (h ps : List Float) (y : Float) → f0 ≡ cleaned (freq i) → h ≡ g i → ps ≡ phasesAt v freq i → y ≡ partialSum v f0 h ps
+  pub few-sounds : (freq : ℕ → Float) (g : ℕ → List Float) (i : ℕ) (h ps : List Float) (y : Float) → f0 ≡ cleaned (freq i) → (getD h 0 nan ≡ getD (g i) 0 nan) × (eqb (v .blend) 0 ≡ false → h ≡ g i) → ps ≡ phasesAt v freq i → y ≡ partialSum v f0 h ps
       → y ≡ partialSum v (cleaned (freq i)) (g i) (phasesAt v freq i)
-  few-sounds freq g i h ps y ef eh ep e = e ∙ rw (ef, eh, ep)
+  few-sounds freq g i h ps y ef eh ep e = e ∙ heard-alike ps (g i) h (eh .0) (eh .1) ∙ rw (ef, ep)
+
+-- what a frequency decides serves every frequency that compares equal: it is the same
+pub pitch-stays : (v : Voice) (p : Pitch) (f0 : Float) → T (fits binary32 f0) → Within 20000 1 f0 → PitchAt (v .«f0_hz») (v .stretch) (v .«mainlobe_gain») (v .count) f0 p
+    → (f : Float) → T (fits binary32 f) → Within 20000 1 f → eq f (p .f0) ≡ true → PitchAt (v .«f0_hz») (v .stretch) (v .«mainlobe_gain») (v .count) f p
+pitch-stays v p f0 F W P f G U e =
+    subst (λ (z : Float). PitchAt (v .«f0_hz») (v .stretch) (v .«mainlobe_gain») (v .count) z p) (sym (same-float f f0 G F (U .plain-is) (W .plain-is) (ap (λ (z : Float). eq f z) (sym (P .at)) ∙ e))) P
+
+pub pitch-of : (v : Voice) (p : Pitch) (f0 : Float) → PitchAt (v .«f0_hz») (v .stretch) (v .«mainlobe_gain») (v .count) f0 p → PitchOf v f0 p
+unfolding sidesAt
+pitch-of v p f0 P = (P .at, P .sides-are, P .stretch-is, P .mainlobe-is)
+
+pub no-pitch-yet : (v : Voice) (p : Pitch) → p .f0 ≡ nan → (f : Float) → T (fits binary32 f) → Within 20000 1 f → eq f (p .f0) ≡ true → PitchAt (v .«f0_hz») (v .stretch) (v .«mainlobe_gain») (v .count) f p
+no-pitch-yet v p n f F W e = absurd (untuned-none f (ap (λ (z : Float). eq f z) (sym n) ∙ e))

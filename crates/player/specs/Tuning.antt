@@ -11,12 +11,23 @@ use Rattle.float.specs.F32.{nearest}
 use Rattle.player.specs.Lists.{Filled, FilledRows, every}
 use Rattle.player.specs.Phase.{AllSteps, partialFreq, stepOf}
 use Rattle.player.specs.Fade.{nyquistFade}
-use Rattle.player.specs.Bracket.{bracketOf, sidesOf, between}
+use Rattle.float.specs.Range.{Within}
+use Rattle.player.specs.Bracket.{bracketOf, sidesOf, SidesIn, between}
 use Rattle.player.specs.Sound.{partialRow, noiseRow}
 use Rattle.player.specs.declared.bracket.Sides.{Sides}
 use Rattle.player.specs.declared.fixed.Fixed.{Fixed}
+use Rattle.player.specs.declared.pitch.Pitch.{Pitch}
 use Rattle.player.specs.declared.tuning.NoiseTuning.{NoiseTuning}
 use Rattle.player.specs.declared.tuning.Tuning.{Tuning}
+
+-- p is what the frequency f0 decides of a sample by itself: its sides, and the values between them
+pub record PitchAt (pitches stretches mainlobes : List Float) (count : ℕ) (f0 : Float) (p : Pitch) : Type 0 where
+  pub at : p .f0 ≡ f0
+  pub sides-are : p .s ≡ sidesOf (bracketOf pitches count f0)
+  pub stretch-is : p .stretch ≡ between stretches (p .s)
+  pub mainlobe-is : p .mainlobe ≡ between mainlobes (p .s)
+  pub inside : SidesIn 16 (p .s)
+  pub small : Within 8 1 (p .stretch)
 
 -- a single voice has one row of coefficients, a blend one for each of its channels
 abbrev pub rowsIn : Fixed → ℕ

@@ -23,12 +23,13 @@ use crate::fixed::fixed_of;
 use crate::input::GainStarts;
 use crate::input::Input;
 use crate::input::frequency_at;
-use crate::input::gains_at;
+use crate::input::gains_heard;
 use crate::input::start_of;
 use crate::partials::partials_single;
 use crate::partials_blend::partials_blend;
 use crate::pitch::Pitch;
-use crate::pitch::pitch_at;
+use crate::pitch::no_pitch;
+use crate::pitch::pitch_kept;
 use crate::voice::Setting;
 use wave_table::table;
 
@@ -114,10 +115,12 @@ pub fn few_tones<'a>(
         g2: start_of(g2, g2_s.len(), samples, ch),
         g3: start_of(g3, g3_s.len(), samples, ch),
     };
+    let mut p = no_pitch();
     let mut i = 0;
     while i < samples {
         let f0 = frequency_at(freq, freq_s, samples, ch, at, i);
-        let g = gains_at(
+        let g = gains_heard(
+            set.blend,
             g0,
             g0_s,
             g1,
@@ -131,7 +134,7 @@ pub fn few_tones<'a>(
             gains_from,
             i,
         );
-        let p = pitch_at(f0_hz, stretch, mainlobe_gain, set.count, f0);
+        p = pitch_kept(p, f0_hz, stretch, mainlobe_gain, set.count, f0);
         out[i] = tone_of(phases, partials, &wave, &g, v, p);
         i += 1;
     }

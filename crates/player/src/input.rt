@@ -1,7 +1,10 @@
 // The inputs of a block, and the questions that they answer.
 ghost use mathlib.Core.Path.{_≡_};
 ghost use Prim.Native.Nat.{_<_, _≤_};
-ghost use lib.ListN.{length};
+ghost use mathlib.Core.Bool.{false};
+ghost use lib.Dec.{eqb};
+ghost use lib.Ieee.{nan};
+ghost use lib.ListN.{length, getD};
 ghost use Rattle.player.specs.Input.{inputAt, frequencyAt, gains, gainsAt, InputFits, inputOk, cleaned, startOf};
 
 // Unconnected, or as many channels of the block's length in the slice beside it.
@@ -118,4 +121,31 @@ pub fn gains_at(
     let c = read_input(g2, g2_s, samples, ch, at.g2, i, 0.0);
     let d = read_input(g3, g3_s, samples, ch, at.g3, i, 0.0);
     [a, b, c, d]
+}
+
+// Those that the voice sounds by: of a single voice only gain 0 is read.
+pub fn gains_heard(
+    blend: u32,
+    g0: Input,
+    g0_s: &[f32],
+    g1: Input,
+    g1_s: &[f32],
+    g2: Input,
+    g2_s: &[f32],
+    g3: Input,
+    g3_s: &[f32],
+    samples: usize,
+    ch: usize,
+    at: GainStarts,
+    i: usize,
+) -> [f32; 4]
+    requires { ⌜ (InputFits g0 samples (length (now «g0_s»))) × (InputFits g1 samples (length (now «g1_s»))) × (InputFits g2 samples (length (now «g2_s»))) × (InputFits g3 samples (length (now «g3_s»))) ⌝ }
+    requires { ⌜ (at .g0 ≡ startOf g0 samples ch) × (at .g1 ≡ startOf g1 samples ch) × (at .g2 ≡ startOf g2 samples ch) × (at .g3 ≡ startOf g3 samples ch) × (i < samples) ⌝ }
+    ensures { λ r. ⌜ (getD r 0 nan ≡ getD (gainsAt (gains g0 (now («g0_s» .entry)) g1 (now («g1_s» .entry)) g2 (now («g2_s» .entry)) g3 (now («g3_s» .entry))) samples ch i) 0 nan) × (eqb blend 0 ≡ false → r ≡ gainsAt (gains g0 (now («g0_s» .entry)) g1 (now («g1_s» .entry)) g2 (now («g2_s» .entry)) g3 (now («g3_s» .entry))) samples ch i) ⌝ }
+{
+    if blend == 0 {
+        let a = read_input(g0, g0_s, samples, ch, at.g0, i, 1.0);
+        return [a, 0.0, 0.0, 0.0];
+    }
+    gains_at(g0, g0_s, g1, g1_s, g2, g2_s, g3, g3_s, samples, ch, at, i)
 }

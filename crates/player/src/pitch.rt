@@ -3,10 +3,11 @@ ghost use mathlib.Core.Path.{_≡_};
 ghost use mathlib.Core.Bool.{true};
 ghost use Prim.Native.Nat.{_≤_};
 ghost use lib.ListN.{getD};
-ghost use lib.Ieee.{nan};
+ghost use lib.Ieee.{nan, eq};
 ghost use Rattle.float.specs.Range.{Within};
 ghost use Rattle.player.specs.Lists.{every};
 ghost use Rattle.player.specs.Voice.{pitchOk, stretchOk};
+ghost use Rattle.player.specs.Tuning.{PitchAt};
 ghost use Rattle.player.specs.Bracket.{bracketOf, sidesOf, SidesIn, between};
 use crate::bracket::Sides;
 use crate::bracket::sides_at;
@@ -38,4 +39,39 @@ pub fn pitch_at<'a>(
         stretch: stretch_between(stretch, s),
         mainlobe: value_between(mainlobe_gain, s),
     }
+}
+
+// No frequency yet: a NaN is equal to none.
+pub fn no_pitch() -> Pitch
+    ensures { λ r. ⌜ r .f0 ≡ nan ⌝ }
+{
+    Pitch {
+        f0: 0.0 / 0.0,
+        s: Sides {
+            lo: 0,
+            hi: 0,
+            t: 0.0,
+        },
+        stretch: 0.0,
+        mainlobe: 0.0,
+    }
+}
+
+// The same while the frequency stays.
+pub fn pitch_kept<'a>(
+    was: Pitch,
+    f0_hz: &'a [f32; 16],
+    stretch: &'a [f32; 16],
+    mainlobe_gain: &'a [f32; 16],
+    count: usize,
+    f0: f32,
+) -> Pitch
+    requires { ⌜ (1 ≤ count) × (count ≤ 16) × (every (λ i. pitchOk (getD (now «f0_hz») i nan)) count ≡ true) × (every (λ i. stretchOk (getD (now stretch) i nan)) count ≡ true) × Within 20000 1 f0 ⌝ }
+    requires { ⌜ (eq f0 (was .f0) ≡ true → PitchAt (now «f0_hz») (now stretch) (now «mainlobe_gain») count f0 was) ⌝ }
+    ensures { λ r. ⌜ PitchAt (now («f0_hz» .entry)) (now (stretch .entry)) (now («mainlobe_gain» .entry)) count f0 r ⌝ }
+{
+    if f0 == was.f0 {
+        return was;
+    }
+    pitch_at(f0_hz, stretch, mainlobe_gain, count, f0)
 }

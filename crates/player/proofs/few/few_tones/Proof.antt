@@ -6,26 +6,29 @@ use mathlib.Core.Bool.{true}
 use Prim.Native.Nat.{ℕ, _-_, _+_, _≤_, _<_}
 use native.Mathlib.Omega.{arith}
 use lib.ListN.{length, drop, getD, length-set}
-use lib.Ieee.{Float, nan}
+use lib.Dec.{T}
+use lib.Ieee.{Float, nan, binary32, eq, fits}
 use Rattle.float.specs.Range.{Within}
 use Rattle.player.specs.Input.{frequencyAt, gains, gainsAt, cleaned}
 use Rattle.player.specs.Parts.{toneVoice}
 use Rattle.player.specs.Passes.{phasesAt, tonesOut}
+use Rattle.player.specs.Tuning.{PitchAt}
 use Rattle.player.specs.Voice.{phasesOk}
 use Rattle.player.specs.declared.voice.Voice.{Voice}
 use Rattle.player.proofs.RangeLaws.{hold}
 use Rattle.player.proofs.SoundLaws.{FixedOf, Facts, facts, cleaned-within, frequency-passes, inverse-small}
 use borrow.Author.Needs.{needs}
-use Rattle.player.proofs.TonePass.{tone-is, phases-is, phases-keep, few-sounds, phases-first, phases-again, tones-first, tones-again, tones-full}
+use Rattle.player.proofs.TonePass.{tone-is, phases-is, phases-keep, few-sounds, pitch-stays, pitch-of, no-pitch-yet, phases-first, phases-again, tones-first, tones-again, tones-full}
+use Rattle.wave_table.proofs.table.Reads as table-reads
 use Rattle.player.proofs.few.few_tones.Statement.{statement}
 use Rattle.player.proofs.few.few_tones.Tie as tie
 use Rattle.wave_table.proofs.table.Reads as table-reads
 
 abbrev Inv-loop : tie.InvT-loop
-Inv-loop set f0-hz stretch mainlobe-gain partials phases₀ samples freq freq-s g0 g0-s g1 g1-s g2 g2-s g3 g3-s ch out₀ wave v at gains-from i₀ phases out i = (i ≤ samples) × (length out ≡ samples) × (out ≡ tonesOut (toneVoice set f0-hz stretch mainlobe-gain partials phases₀) (frequencyAt freq freq-s samples ch) (gainsAt (gains g0 g0-s g1 g1-s g2 g2-s g3 g3-s) samples ch) i ++ drop i out₀) × (phases ≡ phasesAt (toneVoice set f0-hz stretch mainlobe-gain partials phases₀) (frequencyAt freq freq-s samples ch) i) × (phasesOk phases (set .m) ≡ true)
+Inv-loop set f0-hz stretch mainlobe-gain partials phases₀ samples freq freq-s g0 g0-s g1 g1-s g2 g2-s g3 g3-s ch out₀ wave v at gains-from p₀ i₀ phases out p i = (i ≤ samples) × (length out ≡ samples) × (out ≡ tonesOut (toneVoice set f0-hz stretch mainlobe-gain partials phases₀) (frequencyAt freq freq-s samples ch) (gainsAt (gains g0 g0-s g1 g1-s g2 g2-s g3 g3-s) samples ch) i ++ drop i out₀) × (phases ≡ phasesAt (toneVoice set f0-hz stretch mainlobe-gain partials phases₀) (frequencyAt freq freq-s samples ch) i) × (phasesOk phases (set .m) ≡ true) × ((f : Float) → T (fits binary32 f) → Within 20000 1 f → eq f (p .f0) ≡ true → PitchAt f0-hz stretch mainlobe-gain (set .count) f p)
 
 abbrev μ-loop : tie.MeasureT-loop
-μ-loop set f0-hz stretch mainlobe-gain partials phases₀ samples freq freq-s g0 g0-s g1 g1-s g2 g2-s g3 g3-s ch out₀ wave v at gains-from i₀ phases out i = samples - i
+μ-loop set f0-hz stretch mainlobe-gain partials phases₀ samples freq freq-s g0 g0-s g1 g1-s g2 g2-s g3 g3-s ch out₀ wave v at gains-from p₀ i₀ phases out p i = samples - i
 
 -- the voice, and what its inputs give
 abbrev voice : (c : tie.Start Inv-loop μ-loop) → Voice
@@ -72,35 +75,39 @@ start-of-requires-5 : tie.Need-start-of-requires-5 Inv-loop μ-loop
 start-of-requires-5 c κs =
     search needs
 
+no-pitch-requires : tie.Need-no-pitch-requires Inv-loop μ-loop
+no-pitch-requires c κs =
+    search needs
+
 loop-holds : tie.Need-loop-holds Inv-loop μ-loop
 loop-holds c =
-    let b13 = c .before .before .before .before .before .before .before .before .before .before .before .before .before in
-    (omega arith, b13 .pre .0 .2, tones-first (voice b13) (freq-of b13) (gains-of b13) (b13 .args .out .now), phases-first (voice b13) (freq-of b13), (rules b13) .phases)
+    let b14 = c .before .before .before .before .before .before .before .before .before .before .before .before .before .before in
+    (omega arith, b14 .pre .0 .2, tones-first (voice b14) (freq-of b14) (gains-of b14) (b14 .args .out .now), phases-first (voice b14) (freq-of b14), (rules b14) .phases, no-pitch-yet (voice b14) (c .no-pitch .result) (c .no-pitch .ensures))
 
 frequency-at-requires : tie.Need-frequency-at-requires Inv-loop μ-loop
 frequency-at-requires c κs =
-    let b6 = c .before .before .before .before .before .before in
-    let b15 = b6 .before .before .before .before .before .before .before .before .before in
-    (b15 .pre .1 .0, (b6 .start-of .ensures, c .loop-test .taken))
+    let b7 = c .before .before .before .before .before .before .before in
+    let b16 = b7 .before .before .before .before .before .before .before .before .before in
+    (b16 .pre .1 .0, (b7 .start-of .ensures, c .loop-test .taken))
 
-gains-at-requires : tie.Need-gains-at-requires Inv-loop μ-loop
-gains-at-requires c κs =
+gains-heard-requires : tie.Need-gains-heard-requires Inv-loop μ-loop
+gains-heard-requires c κs =
     let b1 = c .before in
-    let b3 = b1 .before .before in
-    let b4 = b3 .before in
+    let b4 = b1 .before .before .before in
     let b5 = b4 .before in
     let b6 = b5 .before in
-    let b16 = b6 .before .before .before .before .before .before .before .before .before .before in
-    ((b16 .pre .1 .1, b16 .pre .1 .2, b16 .pre .1 .3, b16 .pre .1 .4), (b6 .start-of2 .ensures, b5 .start-of3 .ensures, b4 .start-of4 .ensures, b3 .start-of5 .ensures, b1 .loop-test .taken))
+    let b7 = b6 .before in
+    let b17 = b7 .before .before .before .before .before .before .before .before .before .before in
+    ((b17 .pre .1 .1, b17 .pre .1 .2, b17 .pre .1 .3, b17 .pre .1 .4), (b7 .start-of2 .ensures, b6 .start-of3 .ensures, b5 .start-of4 .ensures, b4 .start-of5 .ensures, b1 .loop-test .taken))
 
-pitch-at-requires : tie.Need-pitch-at-requires Inv-loop μ-loop
-pitch-at-requires c κs =
+pitch-kept-requires : tie.Need-pitch-kept-requires Inv-loop μ-loop
+pitch-kept-requires c κs =
     let b1 = c .before in
     let b2 = b1 .before in
     let b3 = b2 .before in
-    let b17 = b3 .before .before .before .before .before .before .before .before .before .before .before .before .before .before in
-    let W = subst (λ (z : Float). Within 20000 1 z) (sym (b1 .frequency-at .ensures)) (cleaned-within _ (frequency-passes (b17 .args .freq) (b17 .args .freq-s .now) (b17 .args .samples) (b17 .args .ch) (b3 .loop .i) (b17 .pre .1 .0) (b17 .pre .0 .4) (b2 .loop-test .taken))) in
-    (b17 .pre .0 .1, (rules b17) .sizes .0, (rules b17) .pitches, (rules b17) .stretches, W)
+    let b18 = b3 .before .before .before .before .before .before .before .before .before .before .before .before .before .before .before in
+    let W = subst (λ (z : Float). Within 20000 1 z) (sym (b1 .frequency-at .ensures)) (cleaned-within _ (frequency-passes (b18 .args .freq) (b18 .args .freq-s .now) (b18 .args .samples) (b18 .args .ch) (b3 .loop .i) (b18 .pre .1 .0) (b18 .pre .0 .4) (b2 .loop-test .taken))) in
+    ((b18 .pre .0 .1, (rules b18) .sizes .0, (rules b18) .pitches, (rules b18) .stretches, W), λ e. b3 .loop .inv .5 (b1 .frequency-at .result) (hold _ (b1 .frequency-at .ok)) W e)
 
 tone-of-requires : tie.Need-tone-of-requires Inv-loop μ-loop
 tone-of-requires c κs =
@@ -108,20 +115,20 @@ tone-of-requires c κs =
     let b5 = b3 .before .before in
     let b6 = b5 .before in
     let b7 = b6 .before in
-    let b13 = b7 .before .before .before .before .before .before in
-    let b14 = b13 .before in
-    let b21 = b14 .before .before .before .before .before .before .before in
-    let W = subst (λ (z : Float). Within 20000 1 z) (sym (b5 .frequency-at .ensures)) (cleaned-within _ (frequency-passes (b21 .args .freq) (b21 .args .freq-s .now) (b21 .args .samples) (b21 .args .ch) (b7 .loop .i) (b21 .pre .1 .0) (b21 .pre .0 .4) (b6 .loop-test .taken))) in
-    let X : FixedOf (voice b21) (b13 .fixed-of .result) = b13 .fixed-of .ensures in
-    let F = rules b21 in
-    let P = b3 .pitch-at .ensures in
-    ((b14 .table .ensures, P .1 .0, rw (X .1) (F .sizes .3), rw (X .2) (F .sizes .1), rw (X .2) (b7 .loop .inv .4)), (subst (λ (z : Float). Within 20000 1 z) (sym (P .0 .0)) W, P .1 .1, subst (λ (z : Float). Within 1 4096 z) (sym (X .3)) (inverse-small (voice b21) F)))
+    let b14 = b7 .before .before .before .before .before .before .before in
+    let b15 = b14 .before in
+    let b22 = b15 .before .before .before .before .before .before .before in
+    let W = subst (λ (z : Float). Within 20000 1 z) (sym (b5 .frequency-at .ensures)) (cleaned-within _ (frequency-passes (b22 .args .freq) (b22 .args .freq-s .now) (b22 .args .samples) (b22 .args .ch) (b7 .loop .i) (b22 .pre .1 .0) (b22 .pre .0 .4) (b6 .loop-test .taken))) in
+    let X : FixedOf (voice b22) (b14 .fixed-of .result) = b14 .fixed-of .ensures in
+    let F = rules b22 in
+    let P = b3 .pitch-kept .ensures in
+    ((b15 .table .ensures, P .inside, rw (X .1) (F .sizes .3), rw (X .2) (F .sizes .1), rw (X .2) (b7 .loop .inv .4)), (subst (λ (z : Float). Within 20000 1 z) (sym (P .at)) W, P .small, subst (λ (z : Float). Within 1 4096 z) (sym (X .3)) (inverse-small (voice b22) F)))
 
 mul-out : tie.Need-mul-out Inv-loop μ-loop
 mul-out c =
     let b7 = c .before .before .before .before .before .before .before in
-    let b22 = b7 .before .before .before .before .before .before .before .before .before .before .before .before .before .before .before in
-    omega (arith, b7 .loop-test .taken, b22 .pre .0 .3)
+    let b23 = b7 .before .before .before .before .before .before .before .before .before .before .before .before .before .before .before .before in
+    omega (arith, b7 .loop-test .taken, b23 .pre .0 .3)
 
 slice-write-out : tie.Need-slice-write-out Inv-loop μ-loop
 slice-write-out c =
@@ -132,8 +139,8 @@ slice-write-out c =
 add-i : tie.Need-add-i Inv-loop μ-loop
 add-i c =
     let b7 = c .before .before .before .before .before .before .before in
-    let b22 = b7 .before .before .before .before .before .before .before .before .before .before .before .before .before .before .before in
-    omega (arith, b7 .loop-test .taken, b22 .pre .0 .3)
+    let b23 = b7 .before .before .before .before .before .before .before .before .before .before .before .before .before .before .before .before in
+    omega (arith, b7 .loop-test .taken, b23 .pre .0 .3)
 
 loop-less : tie.Need-loop-less Inv-loop μ-loop
 loop-less c =
@@ -141,41 +148,42 @@ loop-less c =
     omega (arith, b7 .loop-test .taken)
 
 loop-again : tie.Need-loop-again Inv-loop μ-loop
-unfolding sidesAt
 loop-again c =
     let b4 = c .before .before .before .before in
     let b5 = b4 .before in
     let b6 = b5 .before in
     let b7 = b6 .before in
     let b8 = b7 .before in
-    let b14 = b8 .before .before .before .before .before .before in
-    let b22 = b14 .before .before .before .before .before .before .before .before in
-    let W = subst (λ (z : Float). Within 20000 1 z) (sym (b6 .frequency-at .ensures)) (cleaned-within _ (frequency-passes (b22 .args .freq) (b22 .args .freq-s .now) (b22 .args .samples) (b22 .args .ch) (b8 .loop .i) (b22 .pre .1 .0) (b22 .pre .0 .4) (b7 .loop-test .taken))) in
-    let v = voice b22 in
+    let b15 = b8 .before .before .before .before .before .before .before in
+    let b23 = b15 .before .before .before .before .before .before .before .before in
+    let W = subst (λ (z : Float). Within 20000 1 z) (sym (b6 .frequency-at .ensures)) (cleaned-within _ (frequency-passes (b23 .args .freq) (b23 .args .freq-s .now) (b23 .args .samples) (b23 .args .ch) (b8 .loop .i) (b23 .pre .1 .0) (b23 .pre .0 .4) (b7 .loop-test .taken))) in
+    let v = voice b23 in
     let f0 = b6 .frequency-at .result in
-    let x = b14 .fixed-of .result in
-    let p = b4 .pitch-at .result in
-    let X = b14 .fixed-of .ensures in
-    let P = b4 .pitch-at .ensures .0 in
-    let y = few-sounds v f0 x p X P (freq-of b22) (gains-of b22) (b8 .loop .i) (b5 .gains-at .result) (b8 .loop .phases) (c .tone-of .result) (b6 .frequency-at .ensures) (b5 .gains-at .ensures) (b8 .loop .inv .3) (tone-is v f0 x p X P (b5 .gains-at .result) (b8 .loop .phases) (c .tone-of .result) (c .tone-of .ensures .0)) in (
+    let x = b15 .fixed-of .result in
+    let p = b4 .pitch-kept .result in
+    let X = b15 .fixed-of .ensures in
+    let K = b4 .pitch-kept .ensures in
+    let P = pitch-of v p f0 K in
+    let y = few-sounds v f0 x p X P (freq-of b23) (gains-of b23) (b8 .loop .i) (b5 .gains-heard .result) (b8 .loop .phases) (c .tone-of .result) (b6 .frequency-at .ensures) (b5 .gains-heard .ensures) (b8 .loop .inv .3) (tone-is v f0 x p X P (b5 .gains-heard .result) (b8 .loop .phases) (c .tone-of .result) (c .tone-of .ensures .0)) in (
       omega (arith, b7 .loop-test .taken),
       simp length-set (b8 .loop .inv .1),
-      tones-again v (freq-of b22) (gains-of b22) (b8 .loop .i) (b22 .args .out .now) (b8 .loop .out) (c .tone-of .result) (omega (arith, b7 .loop-test .taken, b22 .pre .0 .2)) (b8 .loop .inv .2) y,
-      phases-again v (freq-of b22) (b8 .loop .i) (b8 .loop .phases) _ f0 (b8 .loop .inv .3) (b6 .frequency-at .ensures) (phases-is v f0 x p X P (b8 .loop .phases) _ (c .tone-of .ensures .1)),
-      phases-keep v f0 x p X P (b8 .loop .phases) _ (rules b22) W (b4 .pitch-at .ensures .1 .1) (c .tone-of .ensures .1) (b8 .loop .inv .4),
+      tones-again v (freq-of b23) (gains-of b23) (b8 .loop .i) (b23 .args .out .now) (b8 .loop .out) (c .tone-of .result) (omega (arith, b7 .loop-test .taken, b23 .pre .0 .2)) (b8 .loop .inv .2) y,
+      phases-again v (freq-of b23) (b8 .loop .i) (b8 .loop .phases) _ f0 (b8 .loop .inv .3) (b6 .frequency-at .ensures) (phases-is v f0 x p X P (b8 .loop .phases) _ (c .tone-of .ensures .1)),
+      phases-keep v f0 x p X P (b8 .loop .phases) _ (rules b23) W (K .small) (c .tone-of .ensures .1) (b8 .loop .inv .4),
+      pitch-stays v p f0 (hold _ (b6 .frequency-at .ok)) W K,
     )
 
 same-length : tie.Need-same-length Inv-loop μ-loop
 same-length c =
     let b1 = c .before in
-    let b15 = b1 .before .before .before .before .before .before .before .before .before .before .before .before .before .before in
-    b1 .loop .inv .1 ∙ sym (b15 .pre .0 .2)
+    let b16 = b1 .before .before .before .before .before .before .before .before .before .before .before .before .before .before .before in
+    b1 .loop .inv .1 ∙ sym (b16 .pre .0 .2)
 
 returns : tie.Need-returns Inv-loop μ-loop
 returns c =
     let b1 = c .before in
-    let b15 = b1 .before .before .before .before .before .before .before .before .before .before .before .before .before .before in
-    tones-full (voice b15) (freq-of b15) (gains-of b15) (b1 .loop .i) (b15 .args .samples) (b15 .args .out .now) (b1 .loop .out) (b1 .loop .phases) (omega (arith, c .loop-test .left, b1 .loop .inv .0)) (b15 .pre .0 .2) (b1 .loop .inv .2) (b1 .loop .inv .3)
+    let b16 = b1 .before .before .before .before .before .before .before .before .before .before .before .before .before .before .before in
+    tones-full (voice b16) (freq-of b16) (gains-of b16) (b1 .loop .i) (b16 .args .samples) (b16 .args .out .now) (b1 .loop .out) (b1 .loop .phases) (omega (arith, c .loop-test .left, b1 .loop .inv .0)) (b16 .pre .0 .2) (b1 .loop .inv .2) (b1 .loop .inv .3)
 
 pub few-tones-spec : {M : Type 1} → statement M
 few-tones-spec =
@@ -190,10 +198,11 @@ few-tones-spec =
     start-of-requires-3
     start-of-requires-4
     start-of-requires-5
+    no-pitch-requires
     loop-holds
     frequency-at-requires
-    gains-at-requires
-    pitch-at-requires
+    gains-heard-requires
+    pitch-kept-requires
     tone-of-requires
     mul-out
     slice-write-out
