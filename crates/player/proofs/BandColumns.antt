@@ -21,7 +21,8 @@ use Rattle.filters.specs.Biquad.{tickOf}
 use Rattle.player.specs.Bracket.{between}
 use Rattle.player.specs.Voice.{bandsAscend, liveOk, keepsRules}
 use Rattle.player.specs.Sound.{noCoeffs, noState, sidesAt, noiseRow, partialSum, noiseIn, Mix, addNoiseSingle, addNoiseBlend, blendPower, noiseTerm, bandStep, mixed, mixAt, sound, movedMemories, moved}
-use Rattle.player.specs.Columns.{LiveIn, stateOfColumns, Memories, Coeffs, Ticked, minusZero, singleTerm, blendTerm}
+use Rattle.player.specs.Parts.{coeffsAt, coeffsOf}
+use Rattle.player.specs.Columns.{LiveIn, stateOfColumns, coeffsOfRows, Memories, Coeffs, Ticked, minusZero, singleTerm, blendTerm}
 use Rattle.player.specs.declared.bracket.Sides.{Sides}
 use Rattle.filters.specs.declared.biquad.BiquadState.{BiquadState}
 use Rattle.filters.specs.declared.biquad.Tick.{Tick}
@@ -31,6 +32,7 @@ use Rattle.player.specs.declared.voice.Voice.{Voice}
 use Rattle.player.proofs.Loops.{both-true, every-at}
 use Rattle.player.proofs.QuestionLaws.{kept}
 use Rattle.player.proofs.ColumnLaws.{add-heard, steps-as}
+use Rattle.player.proofs.PartsLaws.{coeffs-at}
 use Rattle.player.proofs.SoundLaws.{mixOf, facts, live-below}
 
 -- ---- what is stored as a term, added
@@ -46,6 +48,18 @@ blend-adds y power noiseGain makeup filtered h = add-heard y power (sqrt power �
 pub stored-adds : (y term root power sum noiseGain makeup filtered : Float) → T (fits binary32 y) → term ≡ blendTerm power root noiseGain makeup filtered → root ≡ sqrt power → power ≡ sum
     → y ⊕ term ≡ addNoiseBlend y sum noiseGain makeup filtered
 stored-adds y term root power sum noiseGain makeup filtered h et er ep = rw (et, er, ep) (blend-adds y sum noiseGain makeup filtered h)
+
+-- ---- the coefficients of the live bands
+-- row q holds coefficient q of each
+pub rows-are-coeffs : (cs xs : List Float) (live : List ℕ) (n : ℕ) → LiveIn live n → FilledRows cs (λ q l. getD xs (getD live l 0 * 5 + q) nan) 5 n → Coeffs cs (coeffsOf xs) live n
+rows-are-coeffs cs xs live n L R = record { at = λ l h. coeffs-at xs (getD live l 0) (L .below l h) ∙ sym (rows l h) }
+  where
+    rows : (l : ℕ) → l < n → coeffsOfRows cs l ≡ coeffsAt xs (getD live l 0)
+    rows l h =
+        let e : l ≡ 0 * 32 + l = omega arith in
+        let z : getD live l 0 * 5 + 0 ≡ getD live l 0 * 5 = omega arith in
+        let r : getD cs l nan ≡ getD xs (getD live l 0 * 5) nan = ap (λ (i : ℕ). getD cs i nan) e ∙ R .at 0 l (omega arith) h ∙ ap (λ (i : ℕ). getD xs i nan) z in
+        rw (r, R .at 1 l (omega arith) h, R .at 2 l (omega arith) h, R .at 3 l (omega arith) h, R .at 4 l (omega arith) h)
 
 -- ---- a list that is written at n places, each by what stands there
 module _ {A : Type 0} (at : ℕ → ℕ) (f : ℕ → A → A) (d : A) where
@@ -176,8 +190,8 @@ module _ (v : Voice) (K : keepsRules v ≡ true) where
       same b (none f) = off-written band (λ l m. stateOfColumns z1 z2 l) noState ns (v .«live_count») b f ∙ sym (A .at b f)
 
   -- ---- the columns of a sample
-  module _ (r : Rng) (ms : List BiquadState) (x : Float) (ys w1 w2 z1 z2 b0 b1 b2 a1 a2 : List Float) (ex : x ≡ noiseIn r) (M : Memories z1 z2 ms (v .live) (v .«live_count»)) (C : Coeffs b0 b1 b2 a1 a2 (v .bands) (v .live) (v .«live_count»))
-      (ticked : Ticked ys w1 w2 z1 z2 b0 b1 b2 a1 a2 x (v .«live_count»)) where
+  module _ (r : Rng) (ms : List BiquadState) (x : Float) (ys w1 w2 z1 z2 cs : List Float) (ex : x ≡ noiseIn r) (M : Memories z1 z2 ms (v .live) (v .«live_count»)) (C : Coeffs cs (v .bands) (v .live) (v .«live_count»))
+      (ticked : Ticked ys w1 w2 z1 z2 cs x (v .«live_count»)) where
     ticked-at : (l : ℕ) → l < v .«live_count» → record { state = stateOfColumns w1 w2 l; y = getD ys l nan } ≡ tickAt (noiseIn r) ms l
     ticked-at l h = ticked .at l h ∙ rw (M .at l h, C .at l h, ex)
 

@@ -16,9 +16,8 @@ use Rattle.float.specs.F32.{_⊕_, nearest}
 use Rattle.float.proofs.Identities.{add-minus-zero}
 use Rattle.player.specs.Lists.{Filled, FilledRows, mapTo, steps}
 use Rattle.filters.specs.Biquad.{tickOf}
-use Rattle.player.specs.Sound.{noState, noCoeffs}
-use Rattle.player.specs.Columns.{added, heard, minusZero, stateOfColumns, coeffsOfColumns, Memories, Coeffs, Ticked}
-use Rattle.filters.specs.declared.biquad.BiquadCoeffs.{BiquadCoeffs}
+use Rattle.player.specs.Sound.{noState}
+use Rattle.player.specs.Columns.{added, heard, minusZero, stateOfColumns, coeffsOfRows, Memories, Ticked}
 use Rattle.filters.specs.declared.biquad.BiquadState.{BiquadState}
 use Rattle.filters.specs.declared.biquad.Tick.{Tick}
 use Rattle.player.proofs.Loops.{mapTo-at}
@@ -108,7 +107,7 @@ module _ (f : ℕ → ℕ → Float) where
   pub rows-full : (xs : List Float) (q k n : ℕ) → q ≡ k → FilledRows xs f q n → FilledRows xs f k n
   rows-full xs q k n e F = rw e at F
 
--- ---- columns of records: what a turn of a loop stores, in two columns and in five
+-- ---- columns of records: what a turn of a loop stores
 abbrev stateFrom : Float → Float → BiquadState
 stateFrom z1 z2 = record { z1 = z1; z2 = z2 }
 
@@ -126,23 +125,11 @@ memories-again z1 z2 ms live l m h1 h2 h e M =
 pub memories-full : (z1 z2 : List Float) (ms : List BiquadState) (live : List ℕ) (l n : ℕ) → l ≡ n → Memories z1 z2 ms live l → Memories z1 z2 ms live n
 memories-full z1 z2 ms live l n e M = rw e at M
 
-pub coeffs-again : (b0 b1 b2 a1 a2 : List Float) (bs : List BiquadCoeffs) (live : List ℕ) (l : ℕ) (c : BiquadCoeffs) → length b0 ≡ 32 → length b1 ≡ 32 → length b2 ≡ 32 → length a1 ≡ 32 → length a2 ≡ 32 → l < 32
-    → c ≡ getD bs (getD live l 0) noCoeffs → Coeffs b0 b1 b2 a1 a2 bs live l → Coeffs (set b0 l (c .b0)) (set b1 l (c .b1)) (set b2 l (c .b2)) (set a1 l (c .a1)) (set a2 l (c .a2)) bs live (l + 1)
-coeffs-again b0 b1 b2 a1 a2 bs live l c h0 h1 h2 h3 h4 h e C =
-    record {
-      at =
-          one-more l (λ i a. C .at i a ∙ rw (set-before b0 l i (c .b0) a, set-before b1 l i (c .b1) a, set-before b2 l i (c .b2) a, set-before a1 l i (c .a1) a, set-before a2 l i (c .a2) a))
-          (sym e ∙ rw (set-at-place b0 l (c .b0) (omega arith), set-at-place b1 l (c .b1) (omega arith), set-at-place b2 l (c .b2) (omega arith), set-at-place a1 l (c .a1) (omega arith), set-at-place a2 l (c .a2) (omega arith)));
-    }
-
-pub coeffs-full : (b0 b1 b2 a1 a2 : List Float) (bs : List BiquadCoeffs) (live : List ℕ) (l n : ℕ) → l ≡ n → Coeffs b0 b1 b2 a1 a2 bs live l → Coeffs b0 b1 b2 a1 a2 bs live n
-coeffs-full b0 b1 b2 a1 a2 bs live l n e C = rw e at C
-
 -- a turn of `tick_bands`: t is the tick of place l
-pub ticked-again : (ys w1 w2 z1 z2 b0 b1 b2 a1 a2 : List Float) (x : Float) (l : ℕ) (t : Tick) → length ys ≡ 32 → length w1 ≡ 32 → length w2 ≡ 32 → l < 32
-    → t ≡ tickOf (stateOfColumns z1 z2 l) x (coeffsOfColumns b0 b1 b2 a1 a2 l) → Ticked ys w1 w2 z1 z2 b0 b1 b2 a1 a2 x l
-    → Ticked (set ys l (t .y)) (set w1 l (t .state .z1)) (set w2 l (t .state .z2)) z1 z2 b0 b1 b2 a1 a2 x (l + 1)
-ticked-again ys w1 w2 z1 z2 b0 b1 b2 a1 a2 x l t hy h1 h2 h e K =
+pub ticked-again : (ys w1 w2 z1 z2 cs : List Float) (x : Float) (l : ℕ) (t : Tick) → length ys ≡ 32 → length w1 ≡ 32 → length w2 ≡ 32 → l < 32
+    → t ≡ tickOf (stateOfColumns z1 z2 l) x (coeffsOfRows cs l) → Ticked ys w1 w2 z1 z2 cs x l
+    → Ticked (set ys l (t .y)) (set w1 l (t .state .z1)) (set w2 l (t .state .z2)) z1 z2 cs x (l + 1)
+ticked-again ys w1 w2 z1 z2 cs x l t hy h1 h2 h e K =
     record {
       at =
           one-more l (λ i a. rw (state-before w1 w2 l i (t .state .z1) (t .state .z2) a, set-before ys l i (t .y) a) (K .at i a))
@@ -153,8 +140,8 @@ ticked-again ys w1 w2 z1 z2 b0 b1 b2 a1 a2 x l t hy h1 h2 h e K =
 pub state-kept : (w1 w2 z1 z2 : List Float) (l : ℕ) → Kept w1 z1 l → Kept w2 z2 l → stateOfColumns w1 w2 l ≡ stateOfColumns z1 z2 l
 state-kept w1 w2 z1 z2 l K J = rw (K .at l (omega arith), J .at l (omega arith))
 
-pub ticked-full : (ys w1 w2 z1 z2 b0 b1 b2 a1 a2 : List Float) (x : Float) (l n : ℕ) → l ≡ n → Ticked ys w1 w2 z1 z2 b0 b1 b2 a1 a2 x l → Ticked ys w1 w2 z1 z2 b0 b1 b2 a1 a2 x n
-ticked-full ys w1 w2 z1 z2 b0 b1 b2 a1 a2 x l n e K = rw e at K
+pub ticked-full : (ys w1 w2 z1 z2 cs : List Float) (x : Float) (l n : ℕ) → l ≡ n → Ticked ys w1 w2 z1 z2 cs x l → Ticked ys w1 w2 z1 z2 cs x n
+ticked-full ys w1 w2 z1 z2 cs x l n e K = rw e at K
 
 -- ---- a term is stored, and -0 over it where the coefficient is 0
 -- LAW: adding what is heard, or -0 where nothing is, is adding where something is heard

@@ -80,7 +80,7 @@ module _ (v : Voice) (K : keepsRules v ≡ true) (x : Fixed) (X : (x .blend ≡ 
   module _ (freq : ℕ → Float) (g : ℕ → List Float) (i : ℕ) (z1 z2 : List Float) (rng : Rng) (rows₀ : List Float) (t₀ : NoiseTuning) (G : Noising v x i z1 z2 rng rows₀ t₀)
       (f0 : Float) (ef : f0 ≡ cleaned (freq i)) (F : T (fits binary32 f0)) (W : Within 20000 1 f0) (rows : List Float) (t : NoiseTuning) (U : NoiseTunedTo v x f0 rows t)
       (next : Bipolar) (en : (next .value ≡ noiseIn rng) × (next .rng ≡ pick (eqb (v .«live_count») 0) rng (nextBipolar rng .rng)))
-      (ys w1 w2 b0 b1 b2 a1 a2 : List Float) (C : Coeffs b0 b1 b2 a1 a2 (v .bands) (v .live) (v .«live_count»)) (K1 : Ticked ys w1 w2 z1 z2 b0 b1 b2 a1 a2 (next .value) (v .«live_count»)) where
+      (ys w1 w2 cs : List Float) (C : Coeffs cs (v .bands) (v .live) (v .«live_count»)) (K1 : Ticked ys w1 w2 z1 z2 cs (next .value) (v .«live_count»)) where
     heard-noise : next .value ≡ noiseIn (rngAt v i)
     heard-noise = en .0 ∙ ap (λ (z : Rng). noiseIn z) (G .rng-is)
 
@@ -89,7 +89,7 @@ module _ (v : Voice) (K : keepsRules v ≡ true) (x : Fixed) (X : (x .blend ≡ 
     unfolding movedRng
     noising-again = record {
       rng-is = rng-again v i rng (next .rng) (G .rng-is) (en .1);
-      memories-are = subst (λ (ms : List BiquadState). Memories w1 w2 ms (v .live) (v .«live_count»)) (memories-again v i) (memories-moved v K (rngAt v i) (memoriesBefore v i) (next .value) ys w1 w2 z1 z2 b0 b1 b2 a1 a2 heard-noise (G .memories-are) C K1 (G .long));
+      memories-are = subst (λ (ms : List BiquadState). Memories w1 w2 ms (v .live) (v .«live_count»)) (memories-again v i) (memories-moved v K (rngAt v i) (memoriesBefore v i) (next .value) ys w1 w2 z1 z2 cs heard-noise (G .memories-are) C K1 (G .long));
       long = ap (λ (ms : List BiquadState). length ms) (sym (memories-again v i)) ∙ length-memories v K (rngAt v i) (memoriesBefore v i) ∙ G .long;
       off = subst (λ (ms : List BiquadState). AgreeOff ms (v .state .memories) (v .live) (v .«live_count»)) (memories-again v i) (agree-moved v K (rngAt v i) (memoriesBefore v i) (v .state .memories) (G .off));
       tuned = noise-stays v x rows t f0 F W U;
@@ -102,7 +102,7 @@ module _ (v : Voice) (K : keepsRules v ≡ true) (x : Fixed) (X : (x .blend ≡ 
     unfolding sidesAt noisy
     noisy-sounds h makeup tone y eh M ey =
         sum-is-sample v K (rngAt v i) (memoriesBefore v i) f0 h (sidesAt v f0) (v .blend) (v .k) (v .«live_count») (t .«noise_gain») rows makeup ys (pick (eqb (v .blend) 0) 1 (v .k)) refl refl refl refl (U .noise-gain) one-row (λ b. all-rows b) (rw (← X .0, ← X .1) (U .rows-are)) M
-        (filtered-at v K (rngAt v i) (memoriesBefore v i) (next .value) ys w1 w2 z1 z2 b0 b1 b2 a1 a2 heard-noise (G .memories-are) C K1) tone y ey
+        (filtered-at v K (rngAt v i) (memoriesBefore v i) (next .value) ys w1 w2 z1 z2 cs heard-noise (G .memories-are) C K1) tone y ey
         ∙ rw (ef, eh)
       where
         one-row : eqb (v .blend) 0 ≡ true → 0 < pick (eqb (v .blend) 0) 1 (v .k)

@@ -1,5 +1,5 @@
 -- Columns of live bands: place l of a column belongs to live band l, that is to band `live[l]`. Cited by private functions only.
-use Prim.Native.Nat.{ℕ, _<_}
+use Prim.Native.Nat.{ℕ, _+_, _<_}
 use mathlib.Core.Path.{_≡_}
 use mathlib.Core.List.{List}
 use mathlib.Core.Bool.{true}
@@ -17,23 +17,29 @@ use Rattle.filters.specs.declared.biquad.BiquadState.{BiquadState}
 pub record LiveIn (live : List ℕ) (n : ℕ) : Type 0 where
   pub below : (l : ℕ) → l < n → getD live l 0 < 16
 
--- place l of two, and of five columns
+-- place l of two columns, and of five rows of 32 places
 abbrev pub stateOfColumns : List Float → List Float → ℕ → BiquadState
 stateOfColumns z1 z2 l = record { z1 = getD z1 l nan; z2 = getD z2 l nan }
 
-abbrev pub coeffsOfColumns : List Float → List Float → List Float → List Float → List Float → ℕ → BiquadCoeffs
-coeffsOfColumns b0 b1 b2 a1 a2 l = record { b0 = getD b0 l nan; b1 = getD b1 l nan; b2 = getD b2 l nan; a1 = getD a1 l nan; a2 = getD a2 l nan }
+abbrev pub coeffsOfRows : List Float → ℕ → BiquadCoeffs
+coeffsOfRows cs l = record {
+  b0 = getD cs l nan;
+  b1 = getD cs (32 + l) nan;
+  b2 = getD cs (64 + l) nan;
+  a1 = getD cs (96 + l) nan;
+  a2 = getD cs (128 + l) nan;
+}
 
--- the columns hold the live bands' memories, and their coefficients
+-- the columns hold the live bands' memories, and the rows their coefficients
 pub record Memories (z1 z2 : List Float) (ms : List BiquadState) (live : List ℕ) (n : ℕ) : Type 0 where
   pub at : (l : ℕ) → l < n → getD ms (getD live l 0) noState ≡ stateOfColumns z1 z2 l
 
-pub record Coeffs (b0 b1 b2 a1 a2 : List Float) (bs : List BiquadCoeffs) (live : List ℕ) (n : ℕ) : Type 0 where
-  pub at : (l : ℕ) → l < n → getD bs (getD live l 0) noCoeffs ≡ coeffsOfColumns b0 b1 b2 a1 a2 l
+pub record Coeffs (cs : List Float) (bs : List BiquadCoeffs) (live : List ℕ) (n : ℕ) : Type 0 where
+  pub at : (l : ℕ) → l < n → getD bs (getD live l 0) noCoeffs ≡ coeffsOfRows cs l
 
 -- one sample x of n filters: the columns ys, w1, w2 hold what `tick` answers for the memories z1, z2
-pub record Ticked (ys w1 w2 z1 z2 b0 b1 b2 a1 a2 : List Float) (x : Float) (n : ℕ) : Type 0 where
-  pub at : (l : ℕ) → l < n → record { state = stateOfColumns w1 w2 l; y = getD ys l nan } ≡ tickOf (stateOfColumns z1 z2 l) x (coeffsOfColumns b0 b1 b2 a1 a2 l)
+pub record Ticked (ys w1 w2 z1 z2 cs : List Float) (x : Float) (n : ℕ) : Type 0 where
+  pub at : (l : ℕ) → l < n → record { state = stateOfColumns w1 w2 l; y = getD ys l nan } ≡ tickOf (stateOfColumns z1 z2 l) x (coeffsOfRows cs l)
 
 -- ---- what a partial or a live band adds to the sample: x where its coefficient c is not 0
 abbrev pub added : Float → Float → Float → Float

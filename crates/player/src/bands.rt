@@ -1,9 +1,9 @@
 // The live bands of a voice as columns: place l belongs to live band l, that is to band `live[l]`.
 ghost use mathlib.Core.Path.{_≡_};
-ghost use Prim.Native.Nat.{_≤_};
+ghost use Prim.Native.Nat.{_≤_, _<_, _+_, _*_};
 ghost use lib.ListN.{length, getD, set};
 ghost use lib.Ieee.{nan};
-ghost use Rattle.player.specs.Lists.{Filled, steps};
+ghost use Rattle.player.specs.Lists.{Filled, FilledRows, steps};
 ghost use Rattle.player.specs.Parts.{memoriesOf, coeffsOf};
 ghost use Rattle.player.specs.Columns.{LiveIn, stateOfColumns, Memories, Coeffs, Ticked};
 
@@ -29,34 +29,41 @@ pub fn gather_memories<'a>(
     }
 }
 
-// Their coefficients.
+// Row q, after the q rows before it: their coefficient q, in the order b0, b1, b2, a1, a2.
+fn gather_row<'a>(
+    coeffs: &mut [f32; 160],
+    bands: &'a [f32; 80],
+    live: &'a [usize; 16],
+    q: usize,
+    n: usize,
+)
+    requires { ⌜ (q < 5) × (n ≤ 16) × LiveIn (now live) n × FilledRows (now coeffs) (λ q l. getD (now bands) (getD (now live) l 0 * 5 + q) nan) q n ⌝ }
+    ensures { λ r. ⌜ FilledRows (now (coeffs .exit)) (λ q l. getD (now (bands .entry)) (getD (now (live .entry)) l 0 * 5 + q) nan) (q + 1) n ⌝ }
+{
+    let places = &mut coeffs[..];
+    let mut l = 0;
+    while l < n {
+        let from = live[l] * 5 + q;
+        let to = q * 32 + l;
+        places[to] = bands[from];
+        l += 1;
+    }
+}
+
+// Their coefficients, in five rows.
 pub fn gather_coeffs<'a>(
-    b0: &mut [f32; 32],
-    b1: &mut [f32; 32],
-    b2: &mut [f32; 32],
-    a1: &mut [f32; 32],
-    a2: &mut [f32; 32],
+    coeffs: &mut [f32; 160],
     bands: &'a [f32; 80],
     live: &'a [usize; 16],
     n: usize,
 )
     requires { ⌜ (n ≤ 16) × LiveIn (now live) n ⌝ }
-    ensures { λ r. ⌜ Coeffs (now (b0 .exit)) (now (b1 .exit)) (now (b2 .exit)) (now (a1 .exit)) (now (a2 .exit)) (coeffsOf (now (bands .entry))) (now (live .entry)) n ⌝ }
+    ensures { λ r. ⌜ Coeffs (now (coeffs .exit)) (coeffsOf (now (bands .entry))) (now (live .entry)) n ⌝ }
 {
-    let s0 = &mut b0[..];
-    let s1 = &mut b1[..];
-    let s2 = &mut b2[..];
-    let t1 = &mut a1[..];
-    let t2 = &mut a2[..];
-    let mut l = 0;
-    while l < n {
-        let at = live[l] * 5;
-        s0[l] = bands[at];
-        s1[l] = bands[at + 1];
-        s2[l] = bands[at + 2];
-        t1[l] = bands[at + 3];
-        t2[l] = bands[at + 4];
-        l += 1;
+    let mut q = 0;
+    while q < 5 {
+        gather_row(coeffs, bands, live, q, n);
+        q += 1;
     }
 }
 
@@ -80,29 +87,25 @@ pub fn gather_makeup<'a>(
 }
 
 // One sample x of n filters, each as `BiquadState::tick`.
-pub fn tick_bands<'a>(
+pub fn tick_bands(
     ys: &mut [f32; 32],
     z1: &mut [f32; 32],
     z2: &mut [f32; 32],
-    b0: &'a [f32; 32],
-    b1: &'a [f32; 32],
-    b2: &'a [f32; 32],
-    a1: &'a [f32; 32],
-    a2: &'a [f32; 32],
+    coeffs: &[f32; 160],
     x: f32,
     n: usize,
 )
     requires { ⌜ n ≤ 32 ⌝ }
-    ensures { λ r. ⌜ Ticked (now (ys .exit)) (now (z1 .exit)) (now (z2 .exit)) (now (z1 .entry)) (now (z2 .entry)) (now (b0 .entry)) (now (b1 .entry)) (now (b2 .entry)) (now (a1 .entry)) (now (a2 .entry)) x n ⌝ }
+    ensures { λ r. ⌜ Ticked (now (ys .exit)) (now (z1 .exit)) (now (z2 .exit)) (now (z1 .entry)) (now (z2 .entry)) (now (coeffs .entry)) x n ⌝ }
 {
     let s = &mut ys[..];
     let s1 = &mut z1[..];
     let s2 = &mut z2[..];
     let mut l = 0;
     while l < n {
-        let y = b0[l] * x + s1[l];
-        s1[l] = b1[l] * x - a1[l] * y + s2[l];
-        s2[l] = b2[l] * x - a2[l] * y;
+        let y = coeffs[l] * x + s1[l];
+        s1[l] = coeffs[32 + l] * x - coeffs[96 + l] * y + s2[l];
+        s2[l] = coeffs[64 + l] * x - coeffs[128 + l] * y;
         s[l] = y;
         l += 1;
     }

@@ -20,9 +20,9 @@ ghost use Rattle.player.specs.Bracket.{SidesIn};
 ghost use Rattle.player.specs.Sound.{addSingle, addBlend, blendCoeff, partialRow};
 use crate::fixed::Fixed;
 use crate::fixed::fixed_of;
-use crate::input::GainStarts;
 use crate::input::Input;
 use crate::input::frequency_at;
+use crate::input::gain_starts;
 use crate::input::gains_heard;
 use crate::input::start_of;
 use crate::partials::partials_single;
@@ -109,12 +109,18 @@ pub fn few_tones<'a>(
     let wave = table();
     let v = fixed_of(set.blend, set.k, set.m, set.sample_rate);
     let at = start_of(freq, freq_s.len(), samples, ch);
-    let gains_from = GainStarts {
-        g0: start_of(g0, g0_s.len(), samples, ch),
-        g1: start_of(g1, g1_s.len(), samples, ch),
-        g2: start_of(g2, g2_s.len(), samples, ch),
-        g3: start_of(g3, g3_s.len(), samples, ch),
-    };
+    let gains_from = gain_starts(
+        g0,
+        g0_s.len(),
+        g1,
+        g1_s.len(),
+        g2,
+        g2_s.len(),
+        g3,
+        g3_s.len(),
+        samples,
+        ch,
+    );
     let mut p = no_pitch();
     let mut i = 0;
     while i < samples {

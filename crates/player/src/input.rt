@@ -97,6 +97,29 @@ pub struct GainStarts {
     pub g3: usize,
 }
 
+pub fn gain_starts(
+    g0: Input,
+    g0_len: usize,
+    g1: Input,
+    g1_len: usize,
+    g2: Input,
+    g2_len: usize,
+    g3: Input,
+    g3_len: usize,
+    samples: usize,
+    ch: usize,
+) -> GainStarts
+    requires { ⌜ (InputFits g0 samples «g0_len») × (InputFits g1 samples «g1_len») × (InputFits g2 samples «g2_len») × (InputFits g3 samples «g3_len») ⌝ }
+    ensures { λ r. ⌜ (r .g0 ≡ startOf g0 samples ch) × (r .g1 ≡ startOf g1 samples ch) × (r .g2 ≡ startOf g2 samples ch) × (r .g3 ≡ startOf g3 samples ch) ⌝ }
+{
+    GainStarts {
+        g0: start_of(g0, g0_len, samples, ch),
+        g1: start_of(g1, g1_len, samples, ch),
+        g2: start_of(g2, g2_len, samples, ch),
+        g3: start_of(g3, g3_len, samples, ch),
+    }
+}
+
 // The four gains of output channel ch at sample i.
 pub fn gains_at(
     g0: Input,

@@ -14,9 +14,9 @@ use crate::bands::gather_memories;
 use crate::bands::scatter_memories;
 use crate::bands::tick_bands;
 use crate::fixed::fixed_of;
-use crate::input::GainStarts;
 use crate::input::Input;
 use crate::input::frequency_at;
+use crate::input::gain_starts;
 use crate::input::gains_at;
 use crate::input::start_of;
 use crate::noise::noise_step;
@@ -57,35 +57,28 @@ pub fn noises<'a>(
 {
     let v = fixed_of(set.blend, set.k, set.m, set.sample_rate);
     let at = start_of(freq, freq_s.len(), samples, ch);
-    let gains_from = GainStarts {
-        g0: start_of(g0, g0_s.len(), samples, ch),
-        g1: start_of(g1, g1_s.len(), samples, ch),
-        g2: start_of(g2, g2_s.len(), samples, ch),
-        g3: start_of(g3, g3_s.len(), samples, ch),
-    };
+    let gains_from = gain_starts(
+        g0,
+        g0_s.len(),
+        g1,
+        g1_s.len(),
+        g2,
+        g2_s.len(),
+        g3,
+        g3_s.len(),
+        samples,
+        ch,
+    );
     let mut z1: [f32; 32] = [0.0; 32];
     let mut z2: [f32; 32] = [0.0; 32];
-    let mut b0: [f32; 32] = [0.0; 32];
-    let mut b1: [f32; 32] = [0.0; 32];
-    let mut b2: [f32; 32] = [0.0; 32];
-    let mut a1: [f32; 32] = [0.0; 32];
-    let mut a2: [f32; 32] = [0.0; 32];
+    let mut coeffs: [f32; 160] = [0.0; 160];
     let mut makeup: [f32; 32] = [0.0; 32];
     let mut ys: [f32; 32] = [0.0; 32];
     let mut terms: [f32; 32] = [0.0; 32];
     let mut powers: [f32; 32] = [0.0; 32];
     let mut rows: [f32; 128] = [0.0; 128];
     gather_memories(&mut z1, &mut z2, memories, live, set.live_count);
-    gather_coeffs(
-        &mut b0,
-        &mut b1,
-        &mut b2,
-        &mut a1,
-        &mut a2,
-        bands,
-        live,
-        set.live_count,
-    );
+    gather_coeffs(&mut coeffs, bands, live, set.live_count);
     gather_makeup(&mut makeup, compensation, live, set.live_count);
     let mut rng = first;
     let mut t = noise_untuned();
@@ -123,11 +116,7 @@ pub fn noises<'a>(
             &mut ys,
             &mut z1,
             &mut z2,
-            &b0,
-            &b1,
-            &b2,
-            &a1,
-            &a2,
+            &coeffs,
             next.value,
             set.live_count,
         );

@@ -9,9 +9,9 @@ ghost use Rattle.player.specs.Voice.{keepsRules};
 ghost use Rattle.player.specs.Parts.{toneVoice};
 ghost use Rattle.player.specs.Passes.{phasesAt, tonesOut};
 use crate::fixed::fixed_of;
-use crate::input::GainStarts;
 use crate::input::Input;
 use crate::input::frequency_at;
+use crate::input::gain_starts;
 use crate::input::gains_at;
 use crate::input::start_of;
 use crate::phases::move_phases;
@@ -51,12 +51,18 @@ pub fn tones<'a>(
     let wave = waves();
     let v = fixed_of(set.blend, set.k, set.m, set.sample_rate);
     let at = start_of(freq, freq_s.len(), samples, ch);
-    let gains_from = GainStarts {
-        g0: start_of(g0, g0_s.len(), samples, ch),
-        g1: start_of(g1, g1_s.len(), samples, ch),
-        g2: start_of(g2, g2_s.len(), samples, ch),
-        g3: start_of(g3, g3_s.len(), samples, ch),
-    };
+    let gains_from = gain_starts(
+        g0,
+        g0_s.len(),
+        g1,
+        g1_s.len(),
+        g2,
+        g2_s.len(),
+        g3,
+        g3_s.len(),
+        samples,
+        ch,
+    );
     let mut freqs: [f32; 32] = [0.0; 32];
     let mut incs: [f32; 32] = [0.0; 32];
     let mut fades: [f32; 32] = [0.0; 32];

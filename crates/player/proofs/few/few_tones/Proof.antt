@@ -59,20 +59,8 @@ start-of-requires : tie.Need-start-of-requires Inv-loop μ-loop
 start-of-requires c κs =
     search needs
 
-start-of-requires-2 : tie.Need-start-of-requires-2 Inv-loop μ-loop
-start-of-requires-2 c κs =
-    search needs
-
-start-of-requires-3 : tie.Need-start-of-requires-3 Inv-loop μ-loop
-start-of-requires-3 c κs =
-    search needs
-
-start-of-requires-4 : tie.Need-start-of-requires-4 Inv-loop μ-loop
-start-of-requires-4 c κs =
-    search needs
-
-start-of-requires-5 : tie.Need-start-of-requires-5 Inv-loop μ-loop
-start-of-requires-5 c κs =
+gain-starts-requires : tie.Need-gain-starts-requires Inv-loop μ-loop
+gain-starts-requires c κs =
     search needs
 
 no-pitch-requires : tie.Need-no-pitch-requires Inv-loop μ-loop
@@ -81,33 +69,30 @@ no-pitch-requires c κs =
 
 loop-holds : tie.Need-loop-holds Inv-loop μ-loop
 loop-holds c =
-    let b14 = c .before .before .before .before .before .before .before .before .before .before .before .before .before .before in
-    (omega arith, b14 .pre .0 .2, tones-first (voice b14) (freq-of b14) (gains-of b14) (b14 .args .out .now), phases-first (voice b14) (freq-of b14), (rules b14) .phases, no-pitch-yet (voice b14) (c .no-pitch .result) (c .no-pitch .ensures))
+    let b11 = c .before .before .before .before .before .before .before .before .before .before .before in
+    (omega arith, b11 .pre .0 .2, tones-first (voice b11) (freq-of b11) (gains-of b11) (b11 .args .out .now), phases-first (voice b11) (freq-of b11), (rules b11) .phases, no-pitch-yet (voice b11) (c .no-pitch .result) (c .no-pitch .ensures))
 
 frequency-at-requires : tie.Need-frequency-at-requires Inv-loop μ-loop
 frequency-at-requires c κs =
-    let b7 = c .before .before .before .before .before .before .before in
-    let b16 = b7 .before .before .before .before .before .before .before .before .before in
-    (b16 .pre .1 .0, (b7 .start-of .ensures, c .loop-test .taken))
+    let b4 = c .before .before .before .before in
+    let b13 = b4 .before .before .before .before .before .before .before .before .before in
+    (b13 .pre .1 .0, (b4 .start-of .ensures, c .loop-test .taken))
 
 gains-heard-requires : tie.Need-gains-heard-requires Inv-loop μ-loop
 gains-heard-requires c κs =
     let b1 = c .before in
     let b4 = b1 .before .before .before in
-    let b5 = b4 .before in
-    let b6 = b5 .before in
-    let b7 = b6 .before in
-    let b17 = b7 .before .before .before .before .before .before .before .before .before .before in
-    ((b17 .pre .1 .1, b17 .pre .1 .2, b17 .pre .1 .3, b17 .pre .1 .4), (b7 .start-of2 .ensures, b6 .start-of3 .ensures, b5 .start-of4 .ensures, b4 .start-of5 .ensures, b1 .loop-test .taken))
+    let b14 = b4 .before .before .before .before .before .before .before .before .before .before in
+    ((b14 .pre .1 .1, b14 .pre .1 .2, b14 .pre .1 .3, b14 .pre .1 .4), (b4 .gain-starts .ensures .0, b4 .gain-starts .ensures .1, b4 .gain-starts .ensures .2, b4 .gain-starts .ensures .3, b1 .loop-test .taken))
 
 pitch-kept-requires : tie.Need-pitch-kept-requires Inv-loop μ-loop
 pitch-kept-requires c κs =
     let b1 = c .before in
     let b2 = b1 .before in
     let b3 = b2 .before in
-    let b18 = b3 .before .before .before .before .before .before .before .before .before .before .before .before .before .before .before in
-    let W = subst (λ (z : Float). Within 20000 1 z) (sym (b1 .frequency-at .ensures)) (cleaned-within _ (frequency-passes (b18 .args .freq) (b18 .args .freq-s .now) (b18 .args .samples) (b18 .args .ch) (b3 .loop .i) (b18 .pre .1 .0) (b18 .pre .0 .4) (b2 .loop-test .taken))) in
-    ((b18 .pre .0 .1, (rules b18) .sizes .0, (rules b18) .pitches, (rules b18) .stretches, W), λ e. b3 .loop .inv .5 (b1 .frequency-at .result) (hold _ (b1 .frequency-at .ok)) W e)
+    let b15 = b3 .before .before .before .before .before .before .before .before .before .before .before .before in
+    let W = subst (λ (z : Float). Within 20000 1 z) (sym (b1 .frequency-at .ensures)) (cleaned-within _ (frequency-passes (b15 .args .freq) (b15 .args .freq-s .now) (b15 .args .samples) (b15 .args .ch) (b3 .loop .i) (b15 .pre .1 .0) (b15 .pre .0 .4) (b2 .loop-test .taken))) in
+    ((b15 .pre .0 .1, (rules b15) .sizes .0, (rules b15) .pitches, (rules b15) .stretches, W), λ e. b3 .loop .inv .5 (b1 .frequency-at .result) (hold _ (b1 .frequency-at .ok)) W e)
 
 tone-of-requires : tie.Need-tone-of-requires Inv-loop μ-loop
 tone-of-requires c κs =
@@ -115,20 +100,20 @@ tone-of-requires c κs =
     let b5 = b3 .before .before in
     let b6 = b5 .before in
     let b7 = b6 .before in
-    let b14 = b7 .before .before .before .before .before .before .before in
-    let b15 = b14 .before in
-    let b22 = b15 .before .before .before .before .before .before .before in
-    let W = subst (λ (z : Float). Within 20000 1 z) (sym (b5 .frequency-at .ensures)) (cleaned-within _ (frequency-passes (b22 .args .freq) (b22 .args .freq-s .now) (b22 .args .samples) (b22 .args .ch) (b7 .loop .i) (b22 .pre .1 .0) (b22 .pre .0 .4) (b6 .loop-test .taken))) in
-    let X : FixedOf (voice b22) (b14 .fixed-of .result) = b14 .fixed-of .ensures in
-    let F = rules b22 in
+    let b11 = b7 .before .before .before .before in
+    let b12 = b11 .before in
+    let b19 = b12 .before .before .before .before .before .before .before in
+    let W = subst (λ (z : Float). Within 20000 1 z) (sym (b5 .frequency-at .ensures)) (cleaned-within _ (frequency-passes (b19 .args .freq) (b19 .args .freq-s .now) (b19 .args .samples) (b19 .args .ch) (b7 .loop .i) (b19 .pre .1 .0) (b19 .pre .0 .4) (b6 .loop-test .taken))) in
+    let X : FixedOf (voice b19) (b11 .fixed-of .result) = b11 .fixed-of .ensures in
+    let F = rules b19 in
     let P = b3 .pitch-kept .ensures in
-    ((b15 .table .ensures, P .inside, rw (X .1) (F .sizes .3), rw (X .2) (F .sizes .1), rw (X .2) (b7 .loop .inv .4)), (subst (λ (z : Float). Within 20000 1 z) (sym (P .at)) W, P .small, subst (λ (z : Float). Within 1 4096 z) (sym (X .3)) (inverse-small (voice b22) F)))
+    ((b12 .table .ensures, P .inside, rw (X .1) (F .sizes .3), rw (X .2) (F .sizes .1), rw (X .2) (b7 .loop .inv .4)), (subst (λ (z : Float). Within 20000 1 z) (sym (P .at)) W, P .small, subst (λ (z : Float). Within 1 4096 z) (sym (X .3)) (inverse-small (voice b19) F)))
 
 mul-out : tie.Need-mul-out Inv-loop μ-loop
 mul-out c =
     let b7 = c .before .before .before .before .before .before .before in
-    let b23 = b7 .before .before .before .before .before .before .before .before .before .before .before .before .before .before .before .before in
-    omega (arith, b7 .loop-test .taken, b23 .pre .0 .3)
+    let b20 = b7 .before .before .before .before .before .before .before .before .before .before .before .before .before in
+    omega (arith, b7 .loop-test .taken, b20 .pre .0 .3)
 
 slice-write-out : tie.Need-slice-write-out Inv-loop μ-loop
 slice-write-out c =
@@ -139,8 +124,8 @@ slice-write-out c =
 add-i : tie.Need-add-i Inv-loop μ-loop
 add-i c =
     let b7 = c .before .before .before .before .before .before .before in
-    let b23 = b7 .before .before .before .before .before .before .before .before .before .before .before .before .before .before .before .before in
-    omega (arith, b7 .loop-test .taken, b23 .pre .0 .3)
+    let b20 = b7 .before .before .before .before .before .before .before .before .before .before .before .before .before in
+    omega (arith, b7 .loop-test .taken, b20 .pre .0 .3)
 
 loop-less : tie.Need-loop-less Inv-loop μ-loop
 loop-less c =
@@ -154,36 +139,36 @@ loop-again c =
     let b6 = b5 .before in
     let b7 = b6 .before in
     let b8 = b7 .before in
-    let b15 = b8 .before .before .before .before .before .before .before in
-    let b23 = b15 .before .before .before .before .before .before .before .before in
-    let W = subst (λ (z : Float). Within 20000 1 z) (sym (b6 .frequency-at .ensures)) (cleaned-within _ (frequency-passes (b23 .args .freq) (b23 .args .freq-s .now) (b23 .args .samples) (b23 .args .ch) (b8 .loop .i) (b23 .pre .1 .0) (b23 .pre .0 .4) (b7 .loop-test .taken))) in
-    let v = voice b23 in
+    let b12 = b8 .before .before .before .before in
+    let b20 = b12 .before .before .before .before .before .before .before .before in
+    let W = subst (λ (z : Float). Within 20000 1 z) (sym (b6 .frequency-at .ensures)) (cleaned-within _ (frequency-passes (b20 .args .freq) (b20 .args .freq-s .now) (b20 .args .samples) (b20 .args .ch) (b8 .loop .i) (b20 .pre .1 .0) (b20 .pre .0 .4) (b7 .loop-test .taken))) in
+    let v = voice b20 in
     let f0 = b6 .frequency-at .result in
-    let x = b15 .fixed-of .result in
+    let x = b12 .fixed-of .result in
     let p = b4 .pitch-kept .result in
-    let X = b15 .fixed-of .ensures in
+    let X = b12 .fixed-of .ensures in
     let K = b4 .pitch-kept .ensures in
     let P = pitch-of v p f0 K in
-    let y = few-sounds v f0 x p X P (freq-of b23) (gains-of b23) (b8 .loop .i) (b5 .gains-heard .result) (b8 .loop .phases) (c .tone-of .result) (b6 .frequency-at .ensures) (b5 .gains-heard .ensures) (b8 .loop .inv .3) (tone-is v f0 x p X P (b5 .gains-heard .result) (b8 .loop .phases) (c .tone-of .result) (c .tone-of .ensures .0)) in (
+    let y = few-sounds v f0 x p X P (freq-of b20) (gains-of b20) (b8 .loop .i) (b5 .gains-heard .result) (b8 .loop .phases) (c .tone-of .result) (b6 .frequency-at .ensures) (b5 .gains-heard .ensures) (b8 .loop .inv .3) (tone-is v f0 x p X P (b5 .gains-heard .result) (b8 .loop .phases) (c .tone-of .result) (c .tone-of .ensures .0)) in (
       omega (arith, b7 .loop-test .taken),
       simp length-set (b8 .loop .inv .1),
-      tones-again v (freq-of b23) (gains-of b23) (b8 .loop .i) (b23 .args .out .now) (b8 .loop .out) (c .tone-of .result) (omega (arith, b7 .loop-test .taken, b23 .pre .0 .2)) (b8 .loop .inv .2) y,
-      phases-again v (freq-of b23) (b8 .loop .i) (b8 .loop .phases) _ f0 (b8 .loop .inv .3) (b6 .frequency-at .ensures) (phases-is v f0 x p X P (b8 .loop .phases) _ (c .tone-of .ensures .1)),
-      phases-keep v f0 x p X P (b8 .loop .phases) _ (rules b23) W (K .small) (c .tone-of .ensures .1) (b8 .loop .inv .4),
+      tones-again v (freq-of b20) (gains-of b20) (b8 .loop .i) (b20 .args .out .now) (b8 .loop .out) (c .tone-of .result) (omega (arith, b7 .loop-test .taken, b20 .pre .0 .2)) (b8 .loop .inv .2) y,
+      phases-again v (freq-of b20) (b8 .loop .i) (b8 .loop .phases) _ f0 (b8 .loop .inv .3) (b6 .frequency-at .ensures) (phases-is v f0 x p X P (b8 .loop .phases) _ (c .tone-of .ensures .1)),
+      phases-keep v f0 x p X P (b8 .loop .phases) _ (rules b20) W (K .small) (c .tone-of .ensures .1) (b8 .loop .inv .4),
       pitch-stays v p f0 (hold _ (b6 .frequency-at .ok)) W K,
     )
 
 same-length : tie.Need-same-length Inv-loop μ-loop
 same-length c =
     let b1 = c .before in
-    let b16 = b1 .before .before .before .before .before .before .before .before .before .before .before .before .before .before .before in
-    b1 .loop .inv .1 ∙ sym (b16 .pre .0 .2)
+    let b13 = b1 .before .before .before .before .before .before .before .before .before .before .before .before in
+    b1 .loop .inv .1 ∙ sym (b13 .pre .0 .2)
 
 returns : tie.Need-returns Inv-loop μ-loop
 returns c =
     let b1 = c .before in
-    let b16 = b1 .before .before .before .before .before .before .before .before .before .before .before .before .before .before .before in
-    tones-full (voice b16) (freq-of b16) (gains-of b16) (b1 .loop .i) (b16 .args .samples) (b16 .args .out .now) (b1 .loop .out) (b1 .loop .phases) (omega (arith, c .loop-test .left, b1 .loop .inv .0)) (b16 .pre .0 .2) (b1 .loop .inv .2) (b1 .loop .inv .3)
+    let b13 = b1 .before .before .before .before .before .before .before .before .before .before .before .before in
+    tones-full (voice b13) (freq-of b13) (gains-of b13) (b1 .loop .i) (b13 .args .samples) (b13 .args .out .now) (b1 .loop .out) (b1 .loop .phases) (omega (arith, c .loop-test .left, b1 .loop .inv .0)) (b13 .pre .0 .2) (b1 .loop .inv .2) (b1 .loop .inv .3)
 
 pub few-tones-spec : {M : Type 1} → statement M
 few-tones-spec =
@@ -194,10 +179,7 @@ few-tones-spec =
     table-requires
     fixed-of-requires
     start-of-requires
-    start-of-requires-2
-    start-of-requires-3
-    start-of-requires-4
-    start-of-requires-5
+    gain-starts-requires
     no-pitch-requires
     loop-holds
     frequency-at-requires

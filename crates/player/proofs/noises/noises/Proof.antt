@@ -21,10 +21,10 @@ use Rattle.player.proofs.noises.noises.Statement.{statement}
 use Rattle.player.proofs.noises.noises.Tie as tie
 
 abbrev Inv-loop : tie.InvT-loop
-Inv-loop set live f0-hz noise-gain noise bands compensation memories samples freq freq-s g0 g0-s g1 g1-s g2 g2-s g3 g3-s ch out₀ v at gains-from z1₀ z2₀ b0 b1 b2 a1 a2 makeup ys₀ terms₀ powers₀ rows₀ rng₀ t₀ i₀ out z1 z2 ys terms powers rows rng t i = (i ≤ samples) × (length out ≡ samples) × (out ≡ noisesOut (noiseVoice set live f0-hz noise-gain noise bands compensation memories rng₀) (frequencyAt freq freq-s samples ch) (gainsAt (gains g0 g0-s g1 g1-s g2 g2-s g3 g3-s) samples ch) out₀ i ++ drop i out₀) × Noising (noiseVoice set live f0-hz noise-gain noise bands compensation memories rng₀) v i z1 z2 rng rows t
+Inv-loop set live f0-hz noise-gain noise bands compensation memories samples freq freq-s g0 g0-s g1 g1-s g2 g2-s g3 g3-s ch out₀ v at gains-from z1₀ z2₀ coeffs makeup ys₀ terms₀ powers₀ rows₀ rng₀ t₀ i₀ out z1 z2 ys terms powers rows rng t i = (i ≤ samples) × (length out ≡ samples) × (out ≡ noisesOut (noiseVoice set live f0-hz noise-gain noise bands compensation memories rng₀) (frequencyAt freq freq-s samples ch) (gainsAt (gains g0 g0-s g1 g1-s g2 g2-s g3 g3-s) samples ch) out₀ i ++ drop i out₀) × Noising (noiseVoice set live f0-hz noise-gain noise bands compensation memories rng₀) v i z1 z2 rng rows t
 
 abbrev μ-loop : tie.MeasureT-loop
-μ-loop set live f0-hz noise-gain noise bands compensation memories samples freq freq-s g0 g0-s g1 g1-s g2 g2-s g3 g3-s ch out₀ v at gains-from z1₀ z2₀ b0 b1 b2 a1 a2 makeup ys₀ terms₀ powers₀ rows₀ rng₀ t₀ i₀ out z1 z2 ys terms powers rows rng t i = samples - i
+μ-loop set live f0-hz noise-gain noise bands compensation memories samples freq freq-s g0 g0-s g1 g1-s g2 g2-s g3 g3-s ch out₀ v at gains-from z1₀ z2₀ coeffs makeup ys₀ terms₀ powers₀ rows₀ rng₀ t₀ i₀ out z1 z2 ys terms powers rows rng t i = samples - i
 
 -- the voice, and what its inputs give
 abbrev voice : (c : tie.Start Inv-loop μ-loop) → Voice
@@ -51,36 +51,24 @@ start-of-requires : tie.Need-start-of-requires Inv-loop μ-loop
 start-of-requires c κs =
     search needs
 
-start-of-requires-2 : tie.Need-start-of-requires-2 Inv-loop μ-loop
-start-of-requires-2 c κs =
-    search needs
-
-start-of-requires-3 : tie.Need-start-of-requires-3 Inv-loop μ-loop
-start-of-requires-3 c κs =
-    search needs
-
-start-of-requires-4 : tie.Need-start-of-requires-4 Inv-loop μ-loop
-start-of-requires-4 c κs =
-    search needs
-
-start-of-requires-5 : tie.Need-start-of-requires-5 Inv-loop μ-loop
-start-of-requires-5 c κs =
+gain-starts-requires : tie.Need-gain-starts-requires Inv-loop μ-loop
+gain-starts-requires c κs =
     search needs
 
 gather-memories-requires : tie.Need-gather-memories-requires Inv-loop μ-loop
 gather-memories-requires c κs =
-    let b16 = c .before .before .before .before .before .before .before .before .before .before .before .before .before .before .before .before in
-    ((rules b16) .sizes .4, b16 .pre .0 .2, live-in (voice b16) (b16 .pre .0 .0))
+    let b13 = c .before .before .before .before .before .before .before .before .before .before .before .before .before in
+    ((rules b13) .sizes .4, b13 .pre .0 .2, live-in (voice b13) (b13 .pre .0 .0))
 
 gather-coeffs-requires : tie.Need-gather-coeffs-requires Inv-loop μ-loop
 gather-coeffs-requires c κs =
-    let b22 = c .before .before .before .before .before .before .before .before .before .before .before .before .before .before .before .before .before .before .before .before .before .before in
-    ((rules b22) .sizes .4, live-in (voice b22) (b22 .pre .0 .0))
+    let b15 = c .before .before .before .before .before .before .before .before .before .before .before .before .before .before .before in
+    ((rules b15) .sizes .4, live-in (voice b15) (b15 .pre .0 .0))
 
 gather-makeup-requires : tie.Need-gather-makeup-requires Inv-loop μ-loop
 gather-makeup-requires c κs =
-    let b24 = c .before .before .before .before .before .before .before .before .before .before .before .before .before .before .before .before .before .before .before .before .before .before .before .before in
-    ((rules b24) .sizes .4, live-in (voice b24) (b24 .pre .0 .0))
+    let b17 = c .before .before .before .before .before .before .before .before .before .before .before .before .before .before .before .before .before in
+    ((rules b17) .sizes .4, live-in (voice b17) (b17 .pre .0 .0))
 
 noise-untuned-requires : tie.Need-noise-untuned-requires Inv-loop μ-loop
 noise-untuned-requires c κs =
@@ -88,37 +76,34 @@ noise-untuned-requires c κs =
 
 loop-holds : tie.Need-loop-holds Inv-loop μ-loop
 loop-holds c =
-    let b9 = c .before .before .before .before .before .before .before .before .before in
-    let b18 = b9 .before .before .before .before .before .before .before .before .before in
-    let b26 = b18 .before .before .before .before .before .before .before .before in
-    (omega arith, b26 .pre .0 .3, noises-first (voice b26) (freq-of b26) (gains-of b26) (b26 .args .out .now), noising-first (voice b26) (b26 .pre .0 .0) (b18 .fixed-of .result) (b18 .fixed-of .ensures .0, b18 .fixed-of .ensures .1) (length-memories (b26 .args .memories .now)) _ _ _ _ (b9 .gather-memories .ensures) (c .noise-untuned .ensures))
+    let b5 = c .before .before .before .before .before in
+    let b11 = b5 .before .before .before .before .before .before in
+    let b19 = b11 .before .before .before .before .before .before .before .before in
+    (omega arith, b19 .pre .0 .3, noises-first (voice b19) (freq-of b19) (gains-of b19) (b19 .args .out .now), noising-first (voice b19) (b19 .pre .0 .0) (b11 .fixed-of .result) (b11 .fixed-of .ensures .0, b11 .fixed-of .ensures .1) (length-memories (b19 .args .memories .now)) _ _ _ _ (b5 .gather-memories .ensures) (c .noise-untuned .ensures))
 
 frequency-at-requires : tie.Need-frequency-at-requires Inv-loop μ-loop
 frequency-at-requires c κs =
-    let b19 = c .before .before .before .before .before .before .before .before .before .before .before .before .before .before .before .before .before .before .before in
-    let b28 = b19 .before .before .before .before .before .before .before .before .before in
-    (b28 .pre .1 .0, (b19 .start-of .ensures, c .loop-test .taken))
+    let b12 = c .before .before .before .before .before .before .before .before .before .before .before .before in
+    let b21 = b12 .before .before .before .before .before .before .before .before .before in
+    (b21 .pre .1 .0, (b12 .start-of .ensures, c .loop-test .taken))
 
 gains-at-requires : tie.Need-gains-at-requires Inv-loop μ-loop
 gains-at-requires c κs =
     let b1 = c .before in
-    let b16 = b1 .before .before .before .before .before .before .before .before .before .before .before .before .before .before .before in
-    let b17 = b16 .before in
-    let b18 = b17 .before in
-    let b19 = b18 .before in
-    let b29 = b19 .before .before .before .before .before .before .before .before .before .before in
-    ((b29 .pre .1 .1, b29 .pre .1 .2, b29 .pre .1 .3, b29 .pre .1 .4), (b19 .start-of2 .ensures, b18 .start-of3 .ensures, b17 .start-of4 .ensures, b16 .start-of5 .ensures, b1 .loop-test .taken))
+    let b12 = b1 .before .before .before .before .before .before .before .before .before .before .before in
+    let b22 = b12 .before .before .before .before .before .before .before .before .before .before in
+    ((b22 .pre .1 .1, b22 .pre .1 .2, b22 .pre .1 .3, b22 .pre .1 .4), (b12 .gain-starts .ensures .0, b12 .gain-starts .ensures .1, b12 .gain-starts .ensures .2, b12 .gain-starts .ensures .3, b1 .loop-test .taken))
 
 tune-noise-requires : tie.Need-tune-noise-requires Inv-loop μ-loop
 tune-noise-requires c κs =
     let b2 = c .before .before in
     let b3 = b2 .before in
     let b4 = b3 .before in
-    let b23 = b4 .before .before .before .before .before .before .before .before .before .before .before .before .before .before .before .before .before .before .before in
-    let b31 = b23 .before .before .before .before .before .before .before .before in
-    let W = subst (λ (z : Float). Within 20000 1 z) (sym (b2 .frequency-at .ensures)) (cleaned-within _ (frequency-passes (b31 .args .freq) (b31 .args .freq-s .now) (b31 .args .samples) (b31 .args .ch) (b4 .loop .i) (b31 .pre .1 .0) (b31 .pre .0 .5) (b3 .loop-test .taken))) in
-    let F = rules b31 in
-    ((b31 .pre .0 .1, F .sizes .0, F .pitches, W), ((rw (b23 .fixed-of .ensures .1) (F .sizes .3), F .sizes .4, live-in (voice b31) (b31 .pre .0 .0)), λ e. b4 .loop .inv .3 .tuned (b2 .frequency-at .result) (hold _ (b2 .frequency-at .ok)) W e))
+    let b16 = b4 .before .before .before .before .before .before .before .before .before .before .before .before in
+    let b24 = b16 .before .before .before .before .before .before .before .before in
+    let W = subst (λ (z : Float). Within 20000 1 z) (sym (b2 .frequency-at .ensures)) (cleaned-within _ (frequency-passes (b24 .args .freq) (b24 .args .freq-s .now) (b24 .args .samples) (b24 .args .ch) (b4 .loop .i) (b24 .pre .1 .0) (b24 .pre .0 .5) (b3 .loop-test .taken))) in
+    let F = rules b24 in
+    ((b24 .pre .0 .1, F .sizes .0, F .pitches, W), ((rw (b16 .fixed-of .ensures .1) (F .sizes .3), F .sizes .4, live-in (voice b24) (b24 .pre .0 .0)), λ e. b4 .loop .inv .3 .tuned (b2 .frequency-at .result) (hold _ (b2 .frequency-at .ok)) W e))
 
 noise-step-requires : tie.Need-noise-step-requires Inv-loop μ-loop
 noise-step-requires c κs =
@@ -126,75 +111,75 @@ noise-step-requires c κs =
 
 tick-bands-requires : tie.Need-tick-bands-requires Inv-loop μ-loop
 tick-bands-requires c κs =
-    let b41 = c .before .before .before .before .before .before .before .before .before .before .before .before .before .before .before .before .before .before .before .before .before .before .before .before .before .before .before .before .before .before .before .before .before .before .before .before .before .before .before .before .before in
-    let F = (rules b41) .sizes .4 in omega (arith, F)
+    let b30 = c .before .before .before .before .before .before .before .before .before .before .before .before .before .before .before .before .before .before .before .before .before .before .before .before .before .before .before .before .before .before in
+    let F = (rules b30) .sizes .4 in omega (arith, F)
 
 mul-noise-sum : tie.Need-mul-noise-sum Inv-loop μ-loop
 mul-noise-sum c =
-    let b15 = c .before .before .before .before .before .before .before .before .before .before .before .before .before .before .before in
-    let b43 = b15 .before .before .before .before .before .before .before .before .before .before .before .before .before .before .before .before .before .before .before .before .before .before .before .before .before .before .before .before in
-    omega (arith, b15 .loop-test .taken, b43 .pre .0 .4)
+    let b11 = c .before .before .before .before .before .before .before .before .before .before .before in
+    let b32 = b11 .before .before .before .before .before .before .before .before .before .before .before .before .before .before .before .before .before .before .before .before .before in
+    omega (arith, b11 .loop-test .taken, b32 .pre .0 .4)
 
 slice-read-noise-sum : tie.Need-slice-read-noise-sum Inv-loop μ-loop
 slice-read-noise-sum c =
-    let b16 = c .before .before .before .before .before .before .before .before .before .before .before .before .before .before .before .before in
-    let b17 = b16 .before in
-    omega (arith, b16 .loop-test .taken, b17 .loop .inv .1)
+    let b12 = c .before .before .before .before .before .before .before .before .before .before .before .before in
+    let b13 = b12 .before in
+    omega (arith, b12 .loop-test .taken, b13 .loop .inv .1)
 
 noise-sum-requires : tie.Need-noise-sum-requires Inv-loop μ-loop
 noise-sum-requires c κs =
-    let b50 = c .before .before .before .before .before .before .before .before .before .before .before .before .before .before .before .before .before .before .before .before .before .before .before .before .before .before .before .before .before .before .before .before .before .before .before .before .before .before .before .before .before .before .before .before .before .before .before .before .before .before in
-    ((rules b50) .sizes .4, (rules b50) .sizes .3)
+    let b39 = c .before .before .before .before .before .before .before .before .before .before .before .before .before .before .before .before .before .before .before .before .before .before .before .before .before .before .before .before .before .before .before .before .before .before .before .before .before .before .before in
+    ((rules b39) .sizes .4, (rules b39) .sizes .3)
 
 mul-out : tie.Need-mul-out Inv-loop μ-loop
 mul-out c =
-    let b23 = c .before .before .before .before .before .before .before .before .before .before .before .before .before .before .before .before .before .before .before .before .before .before .before in
-    let b51 = b23 .before .before .before .before .before .before .before .before .before .before .before .before .before .before .before .before .before .before .before .before .before .before .before .before .before .before .before .before in
-    omega (arith, b23 .loop-test .taken, b51 .pre .0 .4)
+    let b19 = c .before .before .before .before .before .before .before .before .before .before .before .before .before .before .before .before .before .before .before in
+    let b40 = b19 .before .before .before .before .before .before .before .before .before .before .before .before .before .before .before .before .before .before .before .before .before in
+    omega (arith, b19 .loop-test .taken, b40 .pre .0 .4)
 
 slice-write-out : tie.Need-slice-write-out Inv-loop μ-loop
 slice-write-out c =
-    let b23 = c .before .before .before .before .before .before .before .before .before .before .before .before .before .before .before .before .before .before .before .before .before .before .before in
-    let b24 = b23 .before in
-    omega (arith, b23 .loop-test .taken, b24 .loop .inv .1)
+    let b19 = c .before .before .before .before .before .before .before .before .before .before .before .before .before .before .before .before .before .before .before in
+    let b20 = b19 .before in
+    omega (arith, b19 .loop-test .taken, b20 .loop .inv .1)
 
 add-i : tie.Need-add-i Inv-loop μ-loop
 add-i c =
-    let b23 = c .before .before .before .before .before .before .before .before .before .before .before .before .before .before .before .before .before .before .before .before .before .before .before in
-    let b51 = b23 .before .before .before .before .before .before .before .before .before .before .before .before .before .before .before .before .before .before .before .before .before .before .before .before .before .before .before .before in
-    omega (arith, b23 .loop-test .taken, b51 .pre .0 .4)
+    let b19 = c .before .before .before .before .before .before .before .before .before .before .before .before .before .before .before .before .before .before .before in
+    let b40 = b19 .before .before .before .before .before .before .before .before .before .before .before .before .before .before .before .before .before .before .before .before .before in
+    omega (arith, b19 .loop-test .taken, b40 .pre .0 .4)
 
 loop-less : tie.Need-loop-less Inv-loop μ-loop
 loop-less c =
-    let b23 = c .before .before .before .before .before .before .before .before .before .before .before .before .before .before .before .before .before .before .before .before .before .before .before in
-    omega (arith, b23 .loop-test .taken)
+    let b19 = c .before .before .before .before .before .before .before .before .before .before .before .before .before .before .before .before .before .before .before in
+    omega (arith, b19 .loop-test .taken)
 
 loop-again : tie.Need-loop-again Inv-loop μ-loop
 loop-again c =
     let b9 = c .before .before .before .before .before .before .before .before .before in
-    let b18 = b9 .before .before .before .before .before .before .before .before .before in
+    let b14 = b9 .before .before .before .before .before in
+    let b15 = b14 .before in
+    let b17 = b15 .before .before in
+    let b18 = b17 .before in
     let b19 = b18 .before in
-    let b21 = b19 .before .before in
-    let b22 = b21 .before in
-    let b23 = b22 .before in
-    let b24 = b23 .before in
-    let b26 = b24 .before .before in
-    let b28 = b26 .before .before in
-    let b43 = b28 .before .before .before .before .before .before .before .before .before .before .before .before .before .before .before in
-    let b51 = b43 .before .before .before .before .before .before .before .before in
-    let W = subst (λ (z : Float). Within 20000 1 z) (sym (b22 .frequency-at .ensures)) (cleaned-within _ (frequency-passes (b51 .args .freq) (b51 .args .freq-s .now) (b51 .args .samples) (b51 .args .ch) (b24 .loop .i) (b51 .pre .1 .0) (b51 .pre .0 .5) (b23 .loop-test .taken))) in
-    let v = voice b51 in
-    let y = noisy-sounds v (b51 .pre .0 .0) (b43 .fixed-of .result) (b43 .fixed-of .ensures .0, b43 .fixed-of .ensures .1) (length-memories (b51 .args .memories .now)) (freq-of b51) (gains-of b51) (b24 .loop .i) (b24 .loop .z1) (b24 .loop .z2) (b24 .loop .rng) (b24 .loop .rows) (b24 .loop .t) (b24 .loop .inv .3) (b22 .frequency-at .result) (b22 .frequency-at .ensures) (hold _ (b22 .frequency-at .ok)) W _ (b19 .tune-noise .result) (b19 .tune-noise .ensures) (b18 .noise-step .result) (b18 .noise-step .ensures) _ _ _ _ _ _ _ _ (b28 .gather-coeffs .ensures) (b9 .tick-bands .ensures) _ _ _ (c .noise-sum .result) (b21 .gains-at .ensures) (b26 .gather-makeup .ensures) (c .noise-sum .ensures) in (
-      omega (arith, b23 .loop-test .taken),
-      simp length-set (b24 .loop .inv .1),
-      noises-again v (freq-of b51) (gains-of b51) (b24 .loop .i) (b51 .args .out .now) (b24 .loop .out) (c .noise-sum .result) (omega (arith, b23 .loop-test .taken, b51 .pre .0 .3)) (b24 .loop .inv .2) y,
-      noising-again v (b51 .pre .0 .0) (b43 .fixed-of .result) (b43 .fixed-of .ensures .0, b43 .fixed-of .ensures .1) (length-memories (b51 .args .memories .now)) (freq-of b51) (gains-of b51) (b24 .loop .i) (b24 .loop .z1) (b24 .loop .z2) (b24 .loop .rng) (b24 .loop .rows) (b24 .loop .t) (b24 .loop .inv .3) (b22 .frequency-at .result) (b22 .frequency-at .ensures) (hold _ (b22 .frequency-at .ok)) W _ (b19 .tune-noise .result) (b19 .tune-noise .ensures) (b18 .noise-step .result) (b18 .noise-step .ensures) _ _ _ _ _ _ _ _ (b28 .gather-coeffs .ensures) (b9 .tick-bands .ensures),
+    let b20 = b19 .before in
+    let b22 = b20 .before .before in
+    let b24 = b22 .before .before in
+    let b32 = b24 .before .before .before .before .before .before .before .before in
+    let b40 = b32 .before .before .before .before .before .before .before .before in
+    let W = subst (λ (z : Float). Within 20000 1 z) (sym (b18 .frequency-at .ensures)) (cleaned-within _ (frequency-passes (b40 .args .freq) (b40 .args .freq-s .now) (b40 .args .samples) (b40 .args .ch) (b20 .loop .i) (b40 .pre .1 .0) (b40 .pre .0 .5) (b19 .loop-test .taken))) in
+    let v = voice b40 in
+    let y = noisy-sounds v (b40 .pre .0 .0) (b32 .fixed-of .result) (b32 .fixed-of .ensures .0, b32 .fixed-of .ensures .1) (length-memories (b40 .args .memories .now)) (freq-of b40) (gains-of b40) (b20 .loop .i) (b20 .loop .z1) (b20 .loop .z2) (b20 .loop .rng) (b20 .loop .rows) (b20 .loop .t) (b20 .loop .inv .3) (b18 .frequency-at .result) (b18 .frequency-at .ensures) (hold _ (b18 .frequency-at .ok)) W _ (b15 .tune-noise .result) (b15 .tune-noise .ensures) (b14 .noise-step .result) (b14 .noise-step .ensures) _ _ _ _ (b24 .gather-coeffs .ensures) (b9 .tick-bands .ensures) _ _ _ (c .noise-sum .result) (b17 .gains-at .ensures) (b22 .gather-makeup .ensures) (c .noise-sum .ensures) in (
+      omega (arith, b19 .loop-test .taken),
+      simp length-set (b20 .loop .inv .1),
+      noises-again v (freq-of b40) (gains-of b40) (b20 .loop .i) (b40 .args .out .now) (b20 .loop .out) (c .noise-sum .result) (omega (arith, b19 .loop-test .taken, b40 .pre .0 .3)) (b20 .loop .inv .2) y,
+      noising-again v (b40 .pre .0 .0) (b32 .fixed-of .result) (b32 .fixed-of .ensures .0, b32 .fixed-of .ensures .1) (length-memories (b40 .args .memories .now)) (freq-of b40) (gains-of b40) (b20 .loop .i) (b20 .loop .z1) (b20 .loop .z2) (b20 .loop .rng) (b20 .loop .rows) (b20 .loop .t) (b20 .loop .inv .3) (b18 .frequency-at .result) (b18 .frequency-at .ensures) (hold _ (b18 .frequency-at .ok)) W _ (b15 .tune-noise .result) (b15 .tune-noise .ensures) (b14 .noise-step .result) (b14 .noise-step .ensures) _ _ _ _ (b24 .gather-coeffs .ensures) (b9 .tick-bands .ensures),
     )
 
 scatter-memories-requires : tie.Need-scatter-memories-requires Inv-loop μ-loop
 scatter-memories-requires c κs =
-    let b31 = c .before .before .before .before .before .before .before .before .before .before .before .before .before .before .before .before .before .before .before .before .before .before .before .before .before .before .before .before .before .before .before in
-    ((rules b31) .sizes .4, b31 .pre .0 .2, live-in (voice b31) (b31 .pre .0 .0))
+    let b24 = c .before .before .before .before .before .before .before .before .before .before .before .before .before .before .before .before .before .before .before .before .before .before .before .before in
+    ((rules b24) .sizes .4, b24 .pre .0 .2, live-in (voice b24) (b24 .pre .0 .0))
 
 same-length : tie.Need-same-length Inv-loop μ-loop
 same-length c =
@@ -203,18 +188,18 @@ same-length c =
 same-length-2 : tie.Need-same-length-2 Inv-loop μ-loop
 same-length-2 c =
     let b7 = c .before .before .before .before .before .before .before in
-    let b34 = b7 .before .before .before .before .before .before .before .before .before .before .before .before .before .before .before .before .before .before .before .before .before .before .before .before .before .before .before in
-    b7 .loop .inv .1 ∙ sym (b34 .pre .0 .3)
+    let b27 = b7 .before .before .before .before .before .before .before .before .before .before .before .before .before .before .before .before .before .before .before .before in
+    b7 .loop .inv .1 ∙ sym (b27 .pre .0 .3)
 
 returns : tie.Need-returns Inv-loop μ-loop
 returns c =
     let b2 = c .before .before in
     let b6 = b2 .before .before .before .before in
     let b7 = b6 .before in
-    let b26 = b7 .before .before .before .before .before .before .before .before .before .before .before .before .before .before .before .before .before .before .before in
-    let b34 = b26 .before .before .before .before .before .before .before .before in
-    let l = noising-last (voice b34) (b34 .pre .0 .0) (b26 .fixed-of .result) (b26 .fixed-of .ensures .0, b26 .fixed-of .ensures .1) (length-memories (b34 .args .memories .now)) (b7 .loop .i) (b34 .args .samples) (b7 .loop .z1) (b7 .loop .z2) (b7 .loop .rng) (b7 .loop .rows) (b7 .loop .t) _ (omega (arith, b6 .loop-test .left, b7 .loop .inv .0)) (b7 .loop .inv .3) (b2 .scatter-memories .ensures .0) in
-    ((l .0, l .1, b2 .scatter-memories .ensures .1), noises-full (voice b34) (freq-of b34) (gains-of b34) (b7 .loop .i) (b34 .args .samples) (b34 .args .out .now) (b7 .loop .out) (omega (arith, b6 .loop-test .left, b7 .loop .inv .0)) (b34 .pre .0 .3) (b7 .loop .inv .2))
+    let b19 = b7 .before .before .before .before .before .before .before .before .before .before .before .before in
+    let b27 = b19 .before .before .before .before .before .before .before .before in
+    let l = noising-last (voice b27) (b27 .pre .0 .0) (b19 .fixed-of .result) (b19 .fixed-of .ensures .0, b19 .fixed-of .ensures .1) (length-memories (b27 .args .memories .now)) (b7 .loop .i) (b27 .args .samples) (b7 .loop .z1) (b7 .loop .z2) (b7 .loop .rng) (b7 .loop .rows) (b7 .loop .t) _ (omega (arith, b6 .loop-test .left, b7 .loop .inv .0)) (b7 .loop .inv .3) (b2 .scatter-memories .ensures .0) in
+    ((l .0, l .1, b2 .scatter-memories .ensures .1), noises-full (voice b27) (freq-of b27) (gains-of b27) (b7 .loop .i) (b27 .args .samples) (b27 .args .out .now) (b7 .loop .out) (omega (arith, b6 .loop-test .left, b7 .loop .inv .0)) (b27 .pre .0 .3) (b7 .loop .inv .2))
 
 pub noises-spec : {M : Type 1} → statement M
 noises-spec =
@@ -224,10 +209,7 @@ noises-spec =
     μ-loop
     fixed-of-requires
     start-of-requires
-    start-of-requires-2
-    start-of-requires-3
-    start-of-requires-4
-    start-of-requires-5
+    gain-starts-requires
     gather-memories-requires
     gather-coeffs-requires
     gather-makeup-requires

@@ -56,20 +56,8 @@ start-of-requires : tie.Need-start-of-requires Inv-loop μ-loop
 start-of-requires c κs =
     search needs
 
-start-of-requires-2 : tie.Need-start-of-requires-2 Inv-loop μ-loop
-start-of-requires-2 c κs =
-    search needs
-
-start-of-requires-3 : tie.Need-start-of-requires-3 Inv-loop μ-loop
-start-of-requires-3 c κs =
-    search needs
-
-start-of-requires-4 : tie.Need-start-of-requires-4 Inv-loop μ-loop
-start-of-requires-4 c κs =
-    search needs
-
-start-of-requires-5 : tie.Need-start-of-requires-5 Inv-loop μ-loop
-start-of-requires-5 c κs =
+gain-starts-requires : tie.Need-gain-starts-requires Inv-loop μ-loop
+gain-starts-requires c κs =
     search needs
 
 untuned-requires : tie.Need-untuned-requires Inv-loop μ-loop
@@ -78,47 +66,44 @@ untuned-requires c κs =
 
 loop-holds : tie.Need-loop-holds Inv-loop μ-loop
 loop-holds c =
-    let b6 = c .before .before .before .before .before .before in
-    let b14 = b6 .before .before .before .before .before .before .before .before in
-    (omega arith, b14 .pre .0 .2, tones-first (voice b14) (freq-of b14) (gains-of b14) (b14 .args .out .now), toning-first (voice b14) (b6 .fixed-of .result) (b6 .fixed-of .ensures) (freq-of b14) (gains-of b14) _ _ _ _ ((rules b14) .phases) (c .untuned .ensures))
+    let b3 = c .before .before .before in
+    let b11 = b3 .before .before .before .before .before .before .before .before in
+    (omega arith, b11 .pre .0 .2, tones-first (voice b11) (freq-of b11) (gains-of b11) (b11 .args .out .now), toning-first (voice b11) (b3 .fixed-of .result) (b3 .fixed-of .ensures) (freq-of b11) (gains-of b11) _ _ _ _ ((rules b11) .phases) (c .untuned .ensures))
 
 frequency-at-requires : tie.Need-frequency-at-requires Inv-loop μ-loop
 frequency-at-requires c κs =
-    let b7 = c .before .before .before .before .before .before .before in
-    let b16 = b7 .before .before .before .before .before .before .before .before .before in
-    (b16 .pre .1 .0, (b7 .start-of .ensures, c .loop-test .taken))
+    let b4 = c .before .before .before .before in
+    let b13 = b4 .before .before .before .before .before .before .before .before .before in
+    (b13 .pre .1 .0, (b4 .start-of .ensures, c .loop-test .taken))
 
 gains-at-requires : tie.Need-gains-at-requires Inv-loop μ-loop
 gains-at-requires c κs =
     let b1 = c .before in
     let b4 = b1 .before .before .before in
-    let b5 = b4 .before in
-    let b6 = b5 .before in
-    let b7 = b6 .before in
-    let b17 = b7 .before .before .before .before .before .before .before .before .before .before in
-    ((b17 .pre .1 .1, b17 .pre .1 .2, b17 .pre .1 .3, b17 .pre .1 .4), (b7 .start-of2 .ensures, b6 .start-of3 .ensures, b5 .start-of4 .ensures, b4 .start-of5 .ensures, b1 .loop-test .taken))
+    let b14 = b4 .before .before .before .before .before .before .before .before .before .before in
+    ((b14 .pre .1 .1, b14 .pre .1 .2, b14 .pre .1 .3, b14 .pre .1 .4), (b4 .gain-starts .ensures .0, b4 .gain-starts .ensures .1, b4 .gain-starts .ensures .2, b4 .gain-starts .ensures .3, b1 .loop-test .taken))
 
 tune-requires : tie.Need-tune-requires Inv-loop μ-loop
 tune-requires c κs =
     let b5 = c .before .before .before .before .before in
     let b6 = b5 .before in
     let b7 = b6 .before in
-    let b14 = b7 .before .before .before .before .before .before .before in
-    let b22 = b14 .before .before .before .before .before .before .before .before in
-    let W = subst (λ (z : Float). Within 20000 1 z) (sym (b5 .frequency-at .ensures)) (cleaned-within _ (frequency-passes (b22 .args .freq) (b22 .args .freq-s .now) (b22 .args .samples) (b22 .args .ch) (b7 .loop .i) (b22 .pre .1 .0) (b22 .pre .0 .4) (b6 .loop-test .taken))) in
-    let X : FixedOf (voice b22) (b14 .fixed-of .result) = b14 .fixed-of .ensures in
-    let F = rules b22 in
-    ((b22 .pre .0 .1, F .sizes .0, F .pitches, F .stretches, W), ((rw (X .2) (F .sizes .1), rw (X .1) (F .sizes .3), subst (λ (z : Float). Within 1 4096 z) (sym (X .3)) (inverse-small (voice b22) F)), λ e. b7 .loop .inv .3 .tuned (b5 .frequency-at .result) (hold _ (b5 .frequency-at .ok)) W e))
+    let b11 = b7 .before .before .before .before in
+    let b19 = b11 .before .before .before .before .before .before .before .before in
+    let W = subst (λ (z : Float). Within 20000 1 z) (sym (b5 .frequency-at .ensures)) (cleaned-within _ (frequency-passes (b19 .args .freq) (b19 .args .freq-s .now) (b19 .args .samples) (b19 .args .ch) (b7 .loop .i) (b19 .pre .1 .0) (b19 .pre .0 .4) (b6 .loop-test .taken))) in
+    let X : FixedOf (voice b19) (b11 .fixed-of .result) = b11 .fixed-of .ensures in
+    let F = rules b19 in
+    ((b19 .pre .0 .1, F .sizes .0, F .pitches, F .stretches, W), ((rw (X .2) (F .sizes .1), rw (X .1) (F .sizes .3), subst (λ (z : Float). Within 1 4096 z) (sym (X .3)) (inverse-small (voice b19) F)), λ e. b7 .loop .inv .3 .tuned (b5 .frequency-at .result) (hold _ (b5 .frequency-at .ok)) W e))
 
 move-phases-requires : tie.Need-move-phases-requires Inv-loop μ-loop
 move-phases-requires c κs =
     let b2 = c .before .before in
     let b8 = b2 .before .before .before .before .before .before in
     let b10 = b8 .before .before in
-    let b17 = b10 .before .before .before .before .before .before .before in
-    let b25 = b17 .before .before .before .before .before .before .before .before in
-    let H = tuned-voice (voice b25) (b17 .fixed-of .result) (b17 .fixed-of .ensures) _ _ _ (b2 .tune .result) (b8 .frequency-at .result) (b2 .tune .ensures) in
-    ((rules b25) .sizes .1, b10 .loop .inv .3 .ok, H .safe, λ e. sym (H .small) ∙ e)
+    let b14 = b10 .before .before .before .before in
+    let b22 = b14 .before .before .before .before .before .before .before .before in
+    let H = tuned-voice (voice b22) (b14 .fixed-of .result) (b14 .fixed-of .ensures) _ _ _ (b2 .tune .result) (b8 .frequency-at .result) (b2 .tune .ensures) in
+    ((rules b22) .sizes .1, b10 .loop .inv .3 .ok, H .safe, λ e. sym (H .small) ∙ e)
 
 sines-of-requires : tie.Need-sines-of-requires Inv-loop μ-loop
 sines-of-requires c κs =
@@ -126,22 +111,22 @@ sines-of-requires c κs =
     let b9 = b6 .before .before .before in
     let b15 = b9 .before .before .before .before .before .before in
     let b17 = b15 .before .before in
-    let b24 = b17 .before .before .before .before .before .before .before in
-    let b25 = b24 .before in
-    let b32 = b25 .before .before .before .before .before .before .before in
-    let H = tuned-voice (voice b32) (b24 .fixed-of .result) (b24 .fixed-of .ensures) _ _ _ (b9 .tune .result) (b15 .frequency-at .result) (b9 .tune .ensures) in
-    (b25 .waves .ensures, (rules b32) .sizes .1, all-phases (voice b32) (b15 .frequency-at .result) _ _ _ (b9 .tune .result) H (b17 .loop .phases) _ (b17 .loop .inv .3 .ok) (b6 .move-phases .ensures))
+    let b21 = b17 .before .before .before .before in
+    let b22 = b21 .before in
+    let b29 = b22 .before .before .before .before .before .before .before in
+    let H = tuned-voice (voice b29) (b21 .fixed-of .result) (b21 .fixed-of .ensures) _ _ _ (b9 .tune .result) (b15 .frequency-at .result) (b9 .tune .ensures) in
+    (b22 .waves .ensures, (rules b29) .sizes .1, all-phases (voice b29) (b15 .frequency-at .result) _ _ _ (b9 .tune .result) H (b17 .loop .phases) _ (b17 .loop .inv .3 .ok) (b6 .move-phases .ensures))
 
 tone-sum-requires : tie.Need-tone-sum-requires Inv-loop μ-loop
 tone-sum-requires c κs =
-    let b39 = c .before .before .before .before .before .before .before .before .before .before .before .before .before .before .before .before .before .before .before .before .before .before .before .before .before .before .before .before .before .before .before .before .before .before .before .before .before .before .before in
-    ((rules b39) .sizes .3, (rules b39) .sizes .1)
+    let b36 = c .before .before .before .before .before .before .before .before .before .before .before .before .before .before .before .before .before .before .before .before .before .before .before .before .before .before .before .before .before .before .before .before .before .before .before .before in
+    ((rules b36) .sizes .3, (rules b36) .sizes .1)
 
 mul-out : tie.Need-mul-out Inv-loop μ-loop
 mul-out c =
     let b24 = c .before .before .before .before .before .before .before .before .before .before .before .before .before .before .before .before .before .before .before .before .before .before .before .before in
-    let b40 = b24 .before .before .before .before .before .before .before .before .before .before .before .before .before .before .before .before in
-    omega (arith, b24 .loop-test .taken, b40 .pre .0 .3)
+    let b37 = b24 .before .before .before .before .before .before .before .before .before .before .before .before .before in
+    omega (arith, b24 .loop-test .taken, b37 .pre .0 .3)
 
 slice-write-out : tie.Need-slice-write-out Inv-loop μ-loop
 slice-write-out c =
@@ -152,8 +137,8 @@ slice-write-out c =
 add-i : tie.Need-add-i Inv-loop μ-loop
 add-i c =
     let b24 = c .before .before .before .before .before .before .before .before .before .before .before .before .before .before .before .before .before .before .before .before .before .before .before .before in
-    let b40 = b24 .before .before .before .before .before .before .before .before .before .before .before .before .before .before .before .before in
-    omega (arith, b24 .loop-test .taken, b40 .pre .0 .3)
+    let b37 = b24 .before .before .before .before .before .before .before .before .before .before .before .before .before in
+    omega (arith, b24 .loop-test .taken, b37 .pre .0 .3)
 
 loop-less : tie.Need-loop-less Inv-loop μ-loop
 loop-less c =
@@ -169,28 +154,28 @@ loop-again c =
     let b23 = b22 .before in
     let b24 = b23 .before in
     let b25 = b24 .before in
-    let b32 = b25 .before .before .before .before .before .before .before in
-    let b40 = b32 .before .before .before .before .before .before .before .before in
-    let W = subst (λ (z : Float). Within 20000 1 z) (sym (b23 .frequency-at .ensures)) (cleaned-within _ (frequency-passes (b40 .args .freq) (b40 .args .freq-s .now) (b40 .args .samples) (b40 .args .ch) (b25 .loop .i) (b40 .pre .1 .0) (b40 .pre .0 .4) (b24 .loop-test .taken))) in
-    let v = voice b40 in
-    let y = sounds v (b32 .fixed-of .result) (b32 .fixed-of .ensures) (freq-of b40) (gains-of b40) (b25 .loop .i) (b25 .loop .phases) (b25 .loop .incs) (b25 .loop .fades) (b25 .loop .rows) (b25 .loop .t) (b25 .loop .inv .3) (b23 .frequency-at .result) (b23 .frequency-at .ensures) (hold _ (b23 .frequency-at .ok)) W _ _ _ (b17 .tune .result) (b17 .tune .ensures) _ (b14 .move-phases .ensures) _ _ (c .tone-sum .result) (b22 .gains-at .ensures) (b7 .sines-of .ensures) (c .tone-sum .ensures) in (
+    let b29 = b25 .before .before .before .before in
+    let b37 = b29 .before .before .before .before .before .before .before .before in
+    let W = subst (λ (z : Float). Within 20000 1 z) (sym (b23 .frequency-at .ensures)) (cleaned-within _ (frequency-passes (b37 .args .freq) (b37 .args .freq-s .now) (b37 .args .samples) (b37 .args .ch) (b25 .loop .i) (b37 .pre .1 .0) (b37 .pre .0 .4) (b24 .loop-test .taken))) in
+    let v = voice b37 in
+    let y = sounds v (b29 .fixed-of .result) (b29 .fixed-of .ensures) (freq-of b37) (gains-of b37) (b25 .loop .i) (b25 .loop .phases) (b25 .loop .incs) (b25 .loop .fades) (b25 .loop .rows) (b25 .loop .t) (b25 .loop .inv .3) (b23 .frequency-at .result) (b23 .frequency-at .ensures) (hold _ (b23 .frequency-at .ok)) W _ _ _ (b17 .tune .result) (b17 .tune .ensures) _ (b14 .move-phases .ensures) _ _ (c .tone-sum .result) (b22 .gains-at .ensures) (b7 .sines-of .ensures) (c .tone-sum .ensures) in (
       omega (arith, b24 .loop-test .taken),
       simp length-set (b25 .loop .inv .1),
-      tones-again v (freq-of b40) (gains-of b40) (b25 .loop .i) (b40 .args .out .now) (b25 .loop .out) (c .tone-sum .result) (omega (arith, b24 .loop-test .taken, b40 .pre .0 .2)) (b25 .loop .inv .2) y,
-      toning-again v (b32 .fixed-of .result) (b32 .fixed-of .ensures) (freq-of b40) (gains-of b40) (b25 .loop .i) (b25 .loop .phases) (b25 .loop .incs) (b25 .loop .fades) (b25 .loop .rows) (b25 .loop .t) (b25 .loop .inv .3) (b23 .frequency-at .result) (b23 .frequency-at .ensures) (hold _ (b23 .frequency-at .ok)) W _ _ _ (b17 .tune .result) (b17 .tune .ensures) _ (b14 .move-phases .ensures),
+      tones-again v (freq-of b37) (gains-of b37) (b25 .loop .i) (b37 .args .out .now) (b25 .loop .out) (c .tone-sum .result) (omega (arith, b24 .loop-test .taken, b37 .pre .0 .2)) (b25 .loop .inv .2) y,
+      toning-again v (b29 .fixed-of .result) (b29 .fixed-of .ensures) (freq-of b37) (gains-of b37) (b25 .loop .i) (b25 .loop .phases) (b25 .loop .incs) (b25 .loop .fades) (b25 .loop .rows) (b25 .loop .t) (b25 .loop .inv .3) (b23 .frequency-at .result) (b23 .frequency-at .ensures) (hold _ (b23 .frequency-at .ok)) W _ _ _ (b17 .tune .result) (b17 .tune .ensures) _ (b14 .move-phases .ensures),
     )
 
 same-length : tie.Need-same-length Inv-loop μ-loop
 same-length c =
     let b1 = c .before in
-    let b16 = b1 .before .before .before .before .before .before .before .before .before .before .before .before .before .before .before in
-    b1 .loop .inv .1 ∙ sym (b16 .pre .0 .2)
+    let b13 = b1 .before .before .before .before .before .before .before .before .before .before .before .before in
+    b1 .loop .inv .1 ∙ sym (b13 .pre .0 .2)
 
 returns : tie.Need-returns Inv-loop μ-loop
 returns c =
     let b1 = c .before in
-    let b16 = b1 .before .before .before .before .before .before .before .before .before .before .before .before .before .before .before in
-    tones-full (voice b16) (freq-of b16) (gains-of b16) (b1 .loop .i) (b16 .args .samples) (b16 .args .out .now) (b1 .loop .out) (b1 .loop .phases) (omega (arith, c .loop-test .left, b1 .loop .inv .0)) (b16 .pre .0 .2) (b1 .loop .inv .2) (b1 .loop .inv .3 .phases-are)
+    let b13 = b1 .before .before .before .before .before .before .before .before .before .before .before .before in
+    tones-full (voice b13) (freq-of b13) (gains-of b13) (b1 .loop .i) (b13 .args .samples) (b13 .args .out .now) (b1 .loop .out) (b1 .loop .phases) (omega (arith, c .loop-test .left, b1 .loop .inv .0)) (b13 .pre .0 .2) (b1 .loop .inv .2) (b1 .loop .inv .3 .phases-are)
 
 pub tones-spec : {M : Type 1} → statement M
 tones-spec =
@@ -201,10 +186,7 @@ tones-spec =
     waves-requires
     fixed-of-requires
     start-of-requires
-    start-of-requires-2
-    start-of-requires-3
-    start-of-requires-4
-    start-of-requires-5
+    gain-starts-requires
     untuned-requires
     loop-holds
     frequency-at-requires
