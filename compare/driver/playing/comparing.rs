@@ -89,12 +89,20 @@ pub fn play_in(v: &mut Voice, p: &Play, out: &mut [f32]) -> u32 {
     ffi::play_in(v, p.samples, lent(&p.freq), std::array::from_fn(|g| lent(&p.gains[g])), p.channels, out)
 }
 
-// The same of the voice by value; both ways must give the same voice, samples and number, bit for bit.
+// The same of the voice by value.
+pub fn play_by_value(v: &Voice, p: &Play, out: &mut [f32]) -> ffi::PlayedAnswer {
+    ffi::play(v, p.samples, lent(&p.freq), std::array::from_fn(|g| lent(&p.gains[g])), p.channels, out)
+}
+
+// A play both ways: they must give the same voice, samples and number, bit for bit.
 pub fn our_play(v: &Voice, p: &Play, out: &mut [f32]) -> Result<ffi::PlayedAnswer, String> {
     let (mut own, mut heard) = (*v, out.to_vec());
     let number = play_in(&mut own, p, &mut heard);
-    let got = ffi::play(v, p.samples, lent(&p.freq), std::array::from_fn(|g| lent(&p.gains[g])), p.channels, out);
+    let got = play_by_value(v, p, out);
     numbers("number of a play in place", number, got.number)?;
+    if number != 0 {
+        unwritten(&heard)?;
+    }
     floats("samples of a play in place", &heard, out)?;
     if bytes(&own) != bytes(&got.voice) {
         return Err("a play in place leaves another voice".into());
@@ -140,8 +148,17 @@ pub fn broken(v: &Voice, which: usize) -> Voice {
 
 pub const BREAKS: usize = 24;
 
+// What an output holds before a play: every place another, NaNs with a payload among them.
 pub fn filling(n: usize) -> Vec<f32> {
-    (0..n).map(|i| f32::from_bits(0x40490000 + i as u32)).collect()
+    (0..n as u32).map(|i| f32::from_bits(if i % 5 == 3 { 0xFFA00000 + i } else { 0x40490000 + i })).collect()
+}
+
+// The output of a refused play, bit for bit: no NaN may have lost its payload either.
+pub fn unwritten(out: &[f32]) -> Result<(), String> {
+    match out.iter().zip(filling(out.len())).position(|(a, b)| a.to_bits() != b.to_bits()) {
+        None => Ok(()),
+        Some(i) => Err(format!("a refused play writes sample {i}: {:08X}", out[i].to_bits())),
+    }
 }
 
 // A call that must be refused: the number, the voice as given, the output as it was.
@@ -164,7 +181,7 @@ pub fn check_call(v: &mut Voice, p: &mut Theirs, call: &Call, rate: f32, tally: 
             let got = our_play(v, c, &mut out)?;
             if q != 0 {
                 tally.paper += 1;
-                floats("output of a refused play", &out, &filling(c.out_len))?;
+                unwritten(&out)?;
                 return refusal("play", q, &got, v);
             }
             numbers("play's number", got.number, 0)?;
@@ -199,7 +216,7 @@ pub fn check_call(v: &mut Voice, p: &mut Theirs, call: &Call, rate: f32, tally: 
             tally.paper += 1;
             let mut out = filling(c.out_len);
             refusal("play of a broken voice", 13, &our_play(&b, c, &mut out)?, &b)?;
-            floats("output of a refused play", &out, &filling(c.out_len))?;
+            unwritten(&out)?;
             refusal("reset of a broken voice", 13, &ffi::reset(&b), &b)?;
             return refusal("reseed of a broken voice", 13, &ffi::reseed(&b, 7), &b);
         }

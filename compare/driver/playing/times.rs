@@ -42,7 +42,7 @@ fn inputs(n: usize, gliding: bool) -> (Input, [Input; 4]) {
     (to(150.0, 390.0), std::array::from_fn(|g| to(0.2 + g as f32 * 0.1, 0.7)))
 }
 
-fn playing(race: &Race, what: &str, s: &Setup, channels: usize, n: usize, gliding: bool) {
+fn playing(race: &Race, what: &str, s: &Setup, channels: usize, n: usize, gliding: bool, by_value: bool) {
     let mut v = ffi::make(s.kind, 0, &s.image, RATE, &s.centres).voice;
     let (mut p, _) = made(&s.table, s.kind, 0, RATE, &s.centres).unwrap();
     let (freq, gains) = inputs(n, gliding);
@@ -57,7 +57,11 @@ fn playing(race: &Race, what: &str, s: &Setup, channels: usize, n: usize, glidin
         what,
         (channels * n) as f64,
         || {
-            black_box(play_in(&mut v, black_box(&c), &mut out));
+            if by_value {
+                v = play_by_value(&v, black_box(&c), &mut out).voice;
+            } else {
+                black_box(play_in(&mut v, black_box(&c), &mut out));
+            }
         },
         || p.ugen().process(&ctx, black_box(&lent[..used]), black_box(&mut their)),
     );
@@ -81,9 +85,21 @@ pub fn race(race: &Race) {
                 for n in [128, 16, 1] {
                     let what = format!("{voice}; {channels} ch; {how}; block {n}");
                     if race.runs(&what) {
-                        playing(race, &what, &s, channels, n, gliding);
+                        playing(race, &what, &s, channels, n, gliding, false);
                     }
                 }
+            }
+        }
+    }
+    println!("the voice handed over and back by value, some 13 KB; the original's stays where it is, as above");
+    for (voice, kind, m, k, j) in
+        [("single, 32 partials, 16 bands", 0, 32, 1, 16), ("single, 1 partial only", 0, 1, 1, 0), ("blend of 4, 32 partials, 16 bands", 1, 32, 4, 16)]
+    {
+        let s = setup(kind, m, k, j);
+        for n in [128, 16] {
+            let what = format!("{voice}; 1 ch; gliding; block {n}; by value");
+            if race.runs(&what) {
+                playing(race, &what, &s, 1, n, true, true);
             }
         }
     }
