@@ -56,7 +56,7 @@ pub data Event : Type 0 where
   reset : Event
   seed : ℕ → Event
 
--- all 0, and the noise number of a seed
+-- at first: all 0, and the noise number of the default seed
 abbrev pub startFrom : Plain → Machine
 startFrom x = record { phases = replicate (x .phases) (nearest 0 1); memories = replicate (length (x .bands)) cleared; noise = newRng defaultSeed .state }
 
@@ -94,6 +94,8 @@ atFrequency (p ∷ ps) x f0 s = record {
   noise = noiseNext (x .live) (s .noise);
 }
 
+-- a frequency is cleaned first: non-finite, negative and -0 become 0. A reset zeroes phases and memories and returns to the default seed,
+-- whatever was reseeded. A seed is taken, zeroes the memories and keeps the phases.
 unfoldable pub move : Plain → Machine → Event → Machine
 move x s (frequency f) = atFrequency (x .pitches) x (cleaned f) s
 move x s reset = startFrom x

@@ -6,7 +6,7 @@ use lib.Ieee.Positive.{num, den}
 use Rattle.float.specs.Range.{Within}
 use Rattle.float.specs.F32.{nearest}
 
--- 8,000 to 192,000 (a NaN fails both tests)
+-- question 11: finite and 8,000 to 192,000 (a NaN and an infinity fail)
 abbrev pub rateOk : Float → Bool
 rateOk r = le (nearest 8000 1) r && le r (nearest 192000 1)
 

@@ -151,6 +151,8 @@ abbrev pub kindChannel : Kind → ℕ
 kindChannel (Kind.Single c) = c
 kindChannel Kind.Blend = 0
 
+-- what an accepted making answers: the entries kept, sorted by pitch, with their gains and coefficients; rate, bands and compensations; the state at first.
+-- Places that are not in use are 0.
 unfoldable pub freshVoice : Kind → List PitchEntry → Float → List Float → Voice
 freshVoice k es rate centres =
     let vs = voiceEntries k es in
@@ -217,7 +219,7 @@ sizesOk e = leb (mPartials e) 32 && leb (e .jNoise) 16
 unfoldable pub limitsOk : List PitchEntry → Bool
 limitsOk es = leb (length es) 16 && all sizesOk es
 
--- 9: pitch, stretch, every coefficient, and both gains where present
+-- 9: pitch, stretch, every coefficient, and both gains where present. Partial frequencies are never looked at.
 abbrev pub presentFinite : Option ℕ → Bool
 presentFinite (some v) = finite (f32 v)
 presentFinite none = true
@@ -238,6 +240,8 @@ askValues i (e ∷ es) rest = pick (valuesOk e) (askValues (i + 1) es rest) (ref
 abbrev pub channelFound : Kind → List PitchEntry → Bool
 channelFound (Kind.Single c) es = eqb (length es) 0 || any (λ e. hasChannel e c) es
 channelFound Kind.Blend es = true
+
+-- 11 is `rateOk` of the filters: is the sample rate finite and 8,000 to 192,000?
 
 -- 12: are there exactly j centres, all finite?
 abbrev pub centresOk : ℕ → List Float → Bool
@@ -261,6 +265,7 @@ abbrev pub questionOf : Kind → Parsed CoeffTable → Float → List Float → 
 questionOf k (ok t end) rate centres = tableQuestion k (t .entries) rate centres
 questionOf k (refused r) rate centres = r
 
+-- questions 1 to 7 of the image, then 8 to 12
 unfoldable pub makeQuestion : Kind → List ℕ → Float → List Float → Refusal
 makeQuestion k image rate centres = questionOf k (decode image) rate centres
 
@@ -269,6 +274,7 @@ pub record Made : Type 0 where
   pub refusal : Refusal
   pub voice : Voice
 
+-- the fresh voice exactly where all questions are answered yes
 unfoldable pub makeOf : Kind → List ℕ → Float → List Float → Made
 makeOf k image rate centres =
     let q = makeQuestion k image rate centres in
