@@ -3,16 +3,15 @@ ghost use mathlib.Core.Path.{_≡_};
 ghost use mathlib.Core.Bool.{true};
 ghost use Prim.Native.Nat.{_≤_, _+_};
 ghost use lib.ListN.{length, getD};
-ghost use Rattle.player.specs.Input.{InputFits, frequenciesOk, frequencyAt, gains, gainsAt};
-ghost use Rattle.player.specs.Voice.{keepsRules, phasesOk};
-ghost use Rattle.player.specs.Parts.{toneVoice};
-ghost use Rattle.player.specs.Passes.{phasesAt, tonesOut};
+ghost use Rattle.voice.specs.Input.{InputFits, frequenciesOk, frequencyAt, gains, gainsAt};
+ghost use Rattle.voice.specs.Voice.{keepsRules, phasesOk};
+ghost use Rattle.player.specs.Passes.{toneVoice, phasesAt, tonesOut};
 ghost use lib.Dec.{eqb};
 ghost use lib.Ieee.{nan};
 ghost use Rattle.wire.specs.Parse.{pick};
 ghost use Rattle.float.specs.Range.{Within};
 ghost use Rattle.float.specs.F32.{nearest};
-ghost use Rattle.player.specs.Lists.{mapTo, steps};
+ghost use Rattle.voice.specs.Lists.{mapTo, steps};
 ghost use Rattle.wave_table.specs.Wave.{Table};
 ghost use Rattle.player.specs.Fade.{nyquistFade};
 ghost use Rattle.player.specs.Phase.{advanceOf, partialFreq, stepOf};
@@ -21,7 +20,6 @@ ghost use Rattle.player.specs.Sound.{addSingle, addBlend, blendCoeff, pa
 use crate::fixed::Fixed;
 use crate::fixed::fixed_of;
 use crate::input::GainStarts;
-use crate::input::Input;
 use crate::input::frequency_at;
 use crate::input::gains_heard;
 use crate::input::start_of;
@@ -30,7 +28,8 @@ use crate::partials_blend::partials_blend;
 use crate::pitch::Pitch;
 use crate::pitch::no_pitch;
 use crate::pitch::pitch_kept;
-use crate::voice::Setting;
+use voice::Input;
+use voice::Setting;
 use wave_table::table;
 
 // The sum of the partials of one sample.

@@ -6,7 +6,7 @@ use native.Mathlib.Omega.{arith}
 use borrow.Author.Needs.{needs}
 use Prim.Native.Nat.{_-_, _≤_, _<_}
 use lib.ListN.{length, getD, length-set}
-use Rattle.player.specs.Parts.{coeffsOf, coeffsAt}
+use Rattle.voice.specs.Parts.{coeffsOf, coeffsAt}
 use Rattle.player.specs.Columns.{Coeffs}
 use Rattle.player.proofs.bands.gather_coeffs.Statement.{statement}
 use Rattle.player.proofs.bands.gather_coeffs.Tie as tie
