@@ -15,9 +15,9 @@ use borrow.Author.Tests.{eq-eqb, ne-eqb}
 use Rattle.wire.specs.Parse.{pick}
 use Rattle.table.specs.declared.desk.Kind.{Kind}
 use Rattle.table.specs.Table.{PitchEntry}
-use Rattle.player.specs.Lists.{mapTo, steps}
+use Rattle.voice.specs.Lists.{mapTo, steps}
 use Rattle.filters.specs.Biquad.{tickOf}
-use Rattle.player.specs.Sound.{noCoeffs, noState}
+use Rattle.voice.specs.Voice.{noCoeffs, noState}
 use Rattle.making.specs.Making.{isLive, liveBands}
 use Rattle.filters.specs.declared.biquad.BiquadCoeffs.{BiquadCoeffs}
 use Rattle.filters.specs.declared.biquad.BiquadState.{BiquadState}

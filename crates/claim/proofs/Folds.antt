@@ -7,8 +7,8 @@ use native.Mathlib.Nat.{zero-add}
 use native.Mathlib.Omega.{arith}
 use lib.ListN.{length, take, getD, set, replicate, List·getD-append}
 use lib.Seq.{set-getD}
-use Rattle.player.specs.Lists.{mapTo, padded}
-use Rattle.player.proofs.Loops.{both-true, getD-mapTo, mapTo-suc}
+use Rattle.voice.specs.Lists.{mapTo, padded}
+use Rattle.voice.proofs.Loops.{both-true, getD-mapTo, mapTo-suc}
 
 -- five tests
 pub record Five (a b c d e : Bool) : Type 0 where

@@ -15,21 +15,23 @@ use Rattle.table.specs.declared.desk.Kind.{Kind}
 use Rattle.table.specs.Table.{PitchEntry}
 use Rattle.table.specs.Desk.{bandCount}
 use Rattle.float.specs.F32.{_⊗_, nearest}
-use Rattle.player.specs.Lists.{mapTo, steps, upTo, padded}
+use Rattle.voice.specs.Lists.{mapTo, steps, upTo, padded}
 use Rattle.player.specs.Phase.{advanceOf, stepOf, inverseOf}
 use Rattle.filters.specs.Rng.{stepped, bipolarOf, nextBipolar, newRng}
 use Rattle.filters.specs.Biquad.{cleared, noiseBand}
-use Rattle.player.specs.Input.{frequencyAt, cleaned}
-use Rattle.player.specs.Voice.{keepsRules, withState, firstState}
-use Rattle.player.specs.Sound.{noCoeffs, unitVariance, noiseIn, sidesAt, stretchAt, movedPhases, movedRng, movedMemories, moved}
+use Rattle.voice.specs.Input.{frequencyAt, cleaned}
+use Rattle.voice.specs.Voice.{keepsRules, withState, firstState, noCoeffs}
+use Rattle.player.specs.Sound.{unitVariance, noiseIn, sidesAt, stretchAt, movedPhases, movedRng, movedMemories, moved}
 use Rattle.player.specs.Block.{stateAt}
-use Rattle.player.specs.Play.{accepted, playQuestion, played, resetOf, reseedOf, reseededState}
+use Rattle.voice.specs.Question.{accepted, playQuestion}
+use Rattle.player.specs.Play.{played}
+use Rattle.voice.specs.Restart.{resetOf, reseedOf, reseededState}
 use Rattle.making.specs.Making.{f32, voiceEntries, liveBands, isLive, freshVoice}
 use Rattle.filters.specs.Band.{zeroCoeffs}
 use Rattle.filters.specs.declared.biquad.BiquadState.{BiquadState}
 use Rattle.filters.specs.declared.rng.Rng.{Rng}
-use Rattle.player.specs.declared.voice.State.{State}
-use Rattle.player.specs.declared.voice.Voice.{Voice}
+use Rattle.voice.specs.declared.voice.State.{State}
+use Rattle.voice.specs.declared.voice.Voice.{Voice}
 use Rattle.claim.specs.Machine.{Plain, plainFrom, Machine, Event, frequency, seed, startFrom, gain, tick, stretchOf, noiseNext, atFrequency, move, machineFrom}
 use Rattle.claim.specs.Calls.{Call, play, resetCall, reseed, after, run, fedBy, fed, running, CallsF32}
 use Rattle.claim.proofs.Folds.{take-replicate, getD-padded}

@@ -19,22 +19,24 @@ use Rattle.float.proofs.Bounds.{le-or-lt}
 use Rattle.float.specs.F32.{nearest}
 use Rattle.player.specs.Phase.{Step, advanceOf}
 use Rattle.filters.specs.Rate.{Rate}
-use Rattle.player.specs.Lists.{mapTo, steps, every}
-use Rattle.player.specs.Input.{Gains, inputAt, frequencyAt, frequencyOk, frequenciesOk, cleaned}
-use Rattle.player.specs.Voice.{phaseOk, pitchOk, stretchOk, rateOk, pitchesAscend, countsOk, entriesOk, liveOk, phasesOk, keepsRules, withState, firstState}
+use Rattle.voice.specs.Lists.{mapTo, steps, every}
+use Rattle.voice.specs.Input.{Gains, inputAt, frequencyAt, frequencyOk, frequenciesOk, cleaned}
+use Rattle.voice.specs.Voice.{phaseOk, pitchOk, stretchOk, rateOk, pitchesAscend, countsOk, entriesOk, liveOk, phasesOk, keepsRules, withState, firstState}
 use Rattle.player.specs.Sound.{sidesAt, stretchAt, stepAt, movedPhases, moved}
 use Rattle.player.specs.Block.{stateAt}
-use Rattle.player.specs.Play.{ask, accepted, callQuestion, playQuestion, played, resetOf, reseedOf, reseededState}
-use Rattle.player.specs.declared.input.Input.{Input}
-use Rattle.player.specs.declared.input.Input.the-variants.{Unconnected, Channels}
-use Rattle.player.specs.declared.voice.State.{State}
-use Rattle.player.specs.declared.voice.Voice.{Voice}
+use Rattle.voice.specs.Question.{ask, accepted, callQuestion, playQuestion}
+use Rattle.player.specs.Play.{played}
+use Rattle.voice.specs.Restart.{resetOf, reseedOf, reseededState}
+use Rattle.voice.specs.declared.input.Input.{Input}
+use Rattle.voice.specs.declared.input.Input.the-variants.{Unconnected, Channels}
+use Rattle.voice.specs.declared.voice.State.{State}
+use Rattle.voice.specs.declared.voice.Voice.{Voice}
 use Rattle.player.proofs.PhaseLaws.{step-step}
 use Rattle.filters.proofs.Tests.{rate-is}
 use Rattle.player.proofs.RangeLaws.{advance-ok, phase-passes}
 use Rattle.player.proofs.SoundLaws.{cleaned-within}
 use Rattle.claim.specs.Calls.{Call, play, resetCall, reseed, after, run, AllF32, CallF32, CallsF32}
-use Rattle.player.proofs.Loops.{both-true, every-at, at-every}
+use Rattle.voice.proofs.Loops.{both-true, every-at, at-every}
 use Rattle.claim.proofs.Folds.{Five, five-true, true-five}
 use Rattle.claim.proofs.Sides.{between-stretch}
 

@@ -17,7 +17,7 @@ use Rattle.float.proofs.Bounds.{le-or-lt}
 use Rattle.float.specs.F32.{nearest}
 use Rattle.player.specs.Share.{shareOf}
 use Rattle.player.specs.declared.bracket.Bracket.the-variants.{One}
-use Rattle.player.specs.Voice.{pitchOk, stretchOk}
+use Rattle.voice.specs.Voice.{pitchOk, stretchOk}
 use Rattle.player.specs.Bracket.{notAbove, neighbours, bracketOf, sidesOf, SidesIn, between}
 use Rattle.player.proofs.BracketLaws.{notAbove-in}
 use Rattle.player.proofs.PhaseLaws.{share-within}

@@ -13,14 +13,14 @@ use Rattle.wire.specs.Parse.{Parsed}
 use Rattle.table.specs.Table.{PitchEntry, CoeffTable}
 use Rattle.table.specs.Decode.{decode, entriesOf}
 use Rattle.float.specs.F32.{nearest}
-use Rattle.player.specs.Voice.{phaseOk, phasesOk, keepsRules, firstState}
-use Rattle.player.specs.Play.{accepted}
+use Rattle.voice.specs.Voice.{phaseOk, phasesOk, keepsRules, firstState}
+use Rattle.voice.specs.Question.{accepted}
 use Rattle.making.specs.Making.{f32, voiceEntries, freshVoice, blankVoice, makeQuestion, makeOf}
-use Rattle.player.specs.declared.voice.Voice.{Voice}
+use Rattle.voice.specs.declared.voice.Voice.{Voice}
 use Rattle.claim.specs.Machine.{machine, plainFrom, plainOf}
 use Rattle.claim.specs.Calls.{Call, run, fed, running, CallsF32}
 use Rattle.claim.specs.Claim.{PhasesIn, Claim}
-use Rattle.player.proofs.Loops.{both-true, every-at}
+use Rattle.voice.proofs.Loops.{both-true, every-at}
 use Rattle.claim.proofs.Folds.{getD-padded}
 use Rattle.claim.proofs.Rules.{VoiceF32, rules-of, phases-of, rules-kept-run}
 use Rattle.claim.proofs.Moves.{view-first, view-run}

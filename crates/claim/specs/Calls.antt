@@ -4,11 +4,13 @@ use mathlib.Core.List.{List, [], _∷_, _++_}
 use lib.ListN.{length, getD, take}
 use lib.Dec.{T}
 use lib.Ieee.{Float, nan, binary32, fits}
-use Rattle.player.specs.declared.input.Input.{Input}
-use Rattle.player.specs.declared.voice.Voice.{Voice}
-use Rattle.player.specs.Lists.{upTo}
-use Rattle.player.specs.Input.{Gains, frequencyAt}
-use Rattle.player.specs.Play.{callQuestion, accepted, played, resetOf, reseedOf}
+use Rattle.voice.specs.declared.input.Input.{Input}
+use Rattle.voice.specs.declared.voice.Voice.{Voice}
+use Rattle.voice.specs.Lists.{upTo}
+use Rattle.voice.specs.Input.{Gains, frequencyAt}
+use Rattle.voice.specs.Question.{callQuestion, accepted}
+use Rattle.player.specs.Play.{played}
+use Rattle.voice.specs.Restart.{resetOf, reseedOf}
 use Rattle.claim.specs.Machine.{Machine, Event, frequency, reset, seed}
 
 -- a call holds its arguments but the voice: of a play the samples, the frequency input, the gains, the channels and the output slice

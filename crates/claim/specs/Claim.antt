@@ -6,9 +6,9 @@ use mathlib.Core.List.{List}
 use lib.ListN.{getD}
 use lib.Ieee.{Float, nan, le, lt}
 use Rattle.table.specs.declared.desk.Kind.{Kind}
-use Rattle.player.specs.declared.voice.Voice.{Voice}
+use Rattle.voice.specs.declared.voice.Voice.{Voice}
 use Rattle.float.specs.F32.{nearest}
-use Rattle.player.specs.Voice.{keepsRules}
+use Rattle.voice.specs.Voice.{keepsRules}
 use Rattle.making.specs.Making.{makeOf}
 use Rattle.claim.specs.Machine.{machine, plainOf}
 use Rattle.claim.specs.Calls.{Call, run, fed, running, CallsF32}

@@ -17,9 +17,10 @@ use Rattle.float.specs.F32.{_⊗_, nearest}
 use Rattle.player.specs.Phase.{advanceOf, inverseOf, stepOf}
 use Rattle.filters.specs.Rng.{stepped, bipolarOf, newRng, defaultSeed}
 use Rattle.filters.specs.Biquad.{noiseBand, cleared, tickOf}
-use Rattle.player.specs.Input.{cleaned}
+use Rattle.voice.specs.Input.{cleaned}
 use Rattle.player.specs.Bracket.{bracketOf, sidesOf, between}
-use Rattle.player.specs.Sound.{unitVariance, noCoeffs}
+use Rattle.player.specs.Sound.{unitVariance}
+use Rattle.voice.specs.Voice.{noCoeffs}
 use Rattle.making.specs.Making.{f32, voiceEntries, channelCount, phaseCount, liveBands}
 
 -- what the machine takes from the making: the voice's entries by their pitches and stretches, the rate, how many phases, the bands, and which of them are live

@@ -15,7 +15,7 @@ use Rattle.table.specs.View.{entryAt}
 use Rattle.table.proofs.WordLaws.{length-words}
 use Rattle.float.specs.F32.{nearest}
 use Rattle.making.specs.Making.{f32, sizesOk, partialCoeff, noiseCoeff, isNonzero, reach, reachIn, liveIn}
-use Rattle.player.proofs.Loops.{both-true}
+use Rattle.voice.proofs.Loops.{both-true}
 
 -- M is what the view says
 pub partials-are : (s : List ℕ) (v : EntryView) → mPartials (entryAt s v) ≡ v .«m_partials»

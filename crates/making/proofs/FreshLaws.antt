@@ -20,10 +20,10 @@ use Rattle.table.specs.Table.{PitchEntry, CoeffTable, mPartials, hasChannel, me
 use Rattle.table.specs.Decode.{decode, entriesOf}
 use Rattle.table.specs.Desk.{bandCount}
 use Rattle.float.specs.F32.{nearest}
-use Rattle.player.specs.Lists.{steps, every, padded}
-use Rattle.player.specs.Voice.{pitchOk, stretchOk, phaseOk, pitchesAscend, bandsAscend, countsOk, entriesOk, liveOk, phasesOk, keepsRules, rateOk}
+use Rattle.voice.specs.Lists.{steps, every, padded}
+use Rattle.voice.specs.Voice.{pitchOk, stretchOk, phaseOk, pitchesAscend, bandsAscend, countsOk, entriesOk, liveOk, phasesOk, keepsRules, rateOk}
 use Rattle.making.specs.Making.{f32, all, sizesOk, valuesOk, keeps, insert, gathered, voiceEntries, mostChannels, channelCount, partialCoeff, isNonzero, presentFinite, mainlobeKey, noiseGainKey, reach, reachIn, phasesFor, phaseCount, isLive, liveBands, freshVoice, makeQuestion}
-use Rattle.player.proofs.Loops.{both-true}
+use Rattle.voice.proofs.Loops.{both-true}
 use Rattle.making.proofs.SortLaws.{all-insert, all-gathered, bands-few}
 use Rattle.making.proofs.MakingLaws.{Accepted, live-short}
 use Rattle.making.proofs.AcceptedLaws.{make-accepted}

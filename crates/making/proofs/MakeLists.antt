@@ -9,7 +9,7 @@ use native.Mathlib.Nat.{zero-add}
 use lib.ListN.{length, take, drop, getD, set, replicate, length-append, length-map, length-replicate, length-take, drop-of-length-le}
 use lib.Seq.{drop-cons, set-at, take-suc, length-take-le}
 use Rattle.wire.specs.Parse.{pick}
-use Rattle.player.specs.Lists.{upTo, padded}
+use Rattle.voice.specs.Lists.{upTo, padded}
 use Rattle.making.specs.Live.{liveOf, addLive}
 use Rattle.making.specs.Making.{all}
 

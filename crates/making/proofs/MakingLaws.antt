@@ -14,9 +14,9 @@ use Rattle.wire.specs.Parse.{Refusal, refusal, Parsed, ok, refused, pick}
 use Rattle.table.specs.declared.desk.Kind.{Kind}
 use Rattle.table.specs.Table.{PitchEntry, CoeffTable}
 use Rattle.table.specs.Desk.{bandCount}
-use Rattle.player.specs.Voice.{rateOk}
+use Rattle.voice.specs.Voice.{rateOk}
 use Rattle.making.specs.Making.{all, sizesOk, limitsOk, valuesOk, askValues, channelFound, centresOk, askMaking, tableQuestion, isLive, liveBands}
-use Rattle.player.proofs.Loops.{both-true}
+use Rattle.voice.proofs.Loops.{both-true}
 
 -- all questions of a table are answered yes
 pub record Accepted (k : Kind) (es : List PitchEntry) (rate : Float) (centres : List Float) : Type 0 where

@@ -18,7 +18,7 @@ use Rattle.table.specs.Answer.{refusalOf}
 use Rattle.table.specs.Decode.{decode}
 use Rattle.table.specs.View.{entryAt}
 use Rattle.table.specs.Desk.{bandsOf, bandCount, desk, refusedBy, deskOf, deskOutcome}
-use Rattle.player.specs.Play.{accepted}
+use Rattle.voice.specs.Question.{accepted}
 use Rattle.making.specs.Making.{limitsOk, tableQuestion, makeOf, makeQuestion, freshVoice, blankVoice}
 use Rattle.making.proofs.CoeffLaws.{refused-number}
 

@@ -15,7 +15,7 @@ use Rattle.table.specs.declared.entry.EntryView.{EntryView}
 use Rattle.table.specs.Table.{PitchEntry}
 use Rattle.table.specs.View.{entryAt}
 use Rattle.making.specs.Views.{noView}
-use Rattle.player.proofs.Loops.{both-true}
+use Rattle.voice.proofs.Loops.{both-true}
 
 -- the entries from index i on, of the first n views
 abbrev pub rest : List ℕ → List EntryView → ℕ → ℕ → List PitchEntry

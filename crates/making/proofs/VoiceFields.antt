@@ -4,8 +4,8 @@ use mathlib.Core.Path.{_≡_, refl}
 use mathlib.Core.List.{List}
 use lib.Ieee.{Float}
 use Rattle.filters.specs.declared.biquad.BiquadCoeffs.{BiquadCoeffs}
-use Rattle.player.specs.declared.voice.State.{State}
-use Rattle.player.specs.declared.voice.Voice.{Voice}
+use Rattle.voice.specs.declared.voice.State.{State}
+use Rattle.voice.specs.declared.voice.Voice.{Voice}
 
 abbrev pub voiceOf : ℕ → ℕ → ℕ → ℕ → ℕ → ℕ → ℕ → List ℕ → Float → List Float → List Float → List Float → List Float → List Float → List Float → List BiquadCoeffs → List Float → State → Voice
 voiceOf a b c d e f g h i j k l m n o p q r = record { blend = a; channel = b; count = c; k = d; m = e; j = f; «live_count» = g; live = h; «sample_rate» = i; «f0_hz» = j; stretch = k; «mainlobe_gain» = l; «noise_gain» = m; partials = n; noise = o; bands = p; compensation = q; state = r }

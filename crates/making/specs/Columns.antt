@@ -3,7 +3,7 @@ use mathlib.Core.List.{List, map}
 use lib.Ieee.{Float}
 use Rattle.table.specs.Table.{PitchEntry}
 use Rattle.float.specs.F32.{nearest}
-use Rattle.player.specs.Lists.{padded}
+use Rattle.voice.specs.Lists.{padded}
 use Rattle.filters.specs.Biquad.{noiseBand}
 use Rattle.making.specs.Making.{f32, gainOf, mainlobeKey, noiseGainKey}
 use Rattle.filters.specs.Band.{zeroCoeffs, bandCompensation}

@@ -4,7 +4,7 @@ use mathlib.Core.List.{List}
 use mathlib.Core.Bool.{Bool}
 use lib.ListN.{length, set}
 use Rattle.wire.specs.Parse.{pick}
-use Rattle.player.specs.Lists.{padded}
+use Rattle.voice.specs.Lists.{padded}
 use Rattle.making.specs.declared.live.Live.{Live}
 
 -- a list of bands in 16 places

@@ -6,7 +6,7 @@ use Rattle.wire.specs.Parse.{Refusal, refusal}
 use Rattle.table.specs.declared.desk.Kind.{Kind}
 use Rattle.table.specs.Table.{PitchEntry}
 use Rattle.table.specs.Answer.{refusalOf}
-use Rattle.player.specs.Play.{accepted}
+use Rattle.voice.specs.Question.{accepted}
 use Rattle.making.specs.Making.{Made, tableQuestion, freshVoice, blankVoice}
 use Rattle.making.specs.declared.answer.MakeAnswer.{MakeAnswer}
 use Rattle.making.specs.declared.making.MadeVoice.{MadeVoice}

@@ -13,12 +13,12 @@ use Rattle.table.specs.Table.{PitchEntry, CoeffTable, mPartials, hasChannel, co
 use Rattle.table.specs.Decode.{decode, entriesOf}
 use Rattle.table.specs.Desk.{bandCount}
 use Rattle.float.specs.F32.{nearest}
-use Rattle.player.specs.Lists.{upTo, padded}
+use Rattle.voice.specs.Lists.{upTo, padded}
 use Rattle.filters.specs.Biquad.{noiseBand}
 use Rattle.filters.specs.Band.{zeroCoeffs, bandCompensation}
-use Rattle.player.specs.Voice.{pitchOk, stretchOk, rateOk, firstState}
-use Rattle.player.specs.Play.{accepted}
-use Rattle.player.specs.declared.voice.Voice.{Voice}
+use Rattle.voice.specs.Voice.{pitchOk, stretchOk, rateOk, firstState}
+use Rattle.voice.specs.Question.{accepted}
+use Rattle.voice.specs.declared.voice.Voice.{Voice}
 
 -- a table's 32 bits as a float
 abbrev pub f32 : ℕ → Float

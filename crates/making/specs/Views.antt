@@ -9,7 +9,7 @@ use Rattle.table.specs.declared.desk.Kind.{Kind}
 use Rattle.table.specs.Table.{PitchEntry}
 use Rattle.table.specs.View.{entryAt}
 use Rattle.table.specs.Desk.{bandCount}
-use Rattle.player.specs.Voice.{rateOk}
+use Rattle.voice.specs.Voice.{rateOk}
 use Rattle.making.specs.Making.{f32, askMaking, channelFound, centresOk}
 use Rattle.making.specs.declared.values.ValuesAnswer.{ValuesAnswer}
 

@@ -8,7 +8,7 @@ ghost use lib.Dec.{eqb};
 ghost use lib.Ieee.Scale.{finite};
 ghost use Rattle.table.specs.Table.{hasChannel};
 ghost use Rattle.table.specs.Desk.{bandCount};
-ghost use Rattle.player.specs.Voice.{rateOk};
+ghost use Rattle.voice.specs.Voice.{rateOk};
 ghost use Rattle.making.specs.Making.{any, all, sizesOk, channelFound, centresOk, tableQuestion};
 ghost use Rattle.making.specs.Views.{viewed, laterQuestion};
 ghost use Rattle.making.specs.MakeAnswer.{makeRefusal};

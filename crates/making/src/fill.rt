@@ -3,7 +3,7 @@ ghost use mathlib.Core.Path.{_≡_};
 ghost use Prim.Native.Nat.{_≤_, _<_, _%_, _/_};
 ghost use mathlib.Core.Bool.{true};
 ghost use Rattle.table.specs.View.{entryAt};
-ghost use Rattle.player.specs.Lists.{upTo};
+ghost use Rattle.voice.specs.Lists.{upTo};
 ghost use Rattle.making.specs.Making.{all, sizesOk, partialCoeff, noiseCoeff, inSlot, slotChannel, partialPlace, noisePlace};
 ghost use Rattle.making.specs.Views.{viewed};
 ghost use Rattle.making.specs.Columns.{columnsOf};

@@ -3,7 +3,7 @@ ghost use mathlib.Core.Path.{_≡_};
 ghost use Prim.Native.Nat.{_≤_};
 ghost use lib.ListN.{length};
 ghost use mathlib.Core.Bool.{true};
-ghost use Rattle.player.specs.Voice.{rateOk};
+ghost use Rattle.voice.specs.Voice.{rateOk};
 ghost use Rattle.filters.specs.Band.{zeroCoeffs};
 ghost use Rattle.making.specs.Columns.{bandsFrom};
 use filters::BiquadCoeffs;

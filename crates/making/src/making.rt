@@ -5,7 +5,7 @@ ghost use mathlib.Core.List.{List};
 ghost use mathlib.Core.Bool.{true};
 ghost use lib.ListN.{length};
 ghost use Rattle.table.specs.Desk.{bandCount};
-ghost use Rattle.player.specs.Voice.{firstState, rateOk};
+ghost use Rattle.voice.specs.Voice.{firstState, rateOk};
 ghost use Rattle.making.specs.Making.{all, sizesOk, kindNumber, kindChannel, freshVoice, blankVoice, makeOf};
 ghost use Rattle.making.specs.Views.{viewed};
 ghost use Rattle.making.specs.MakeAnswer.{makeRefusal, madeOf, tableMade};
@@ -24,13 +24,13 @@ use crate::live::live_bands;
 use crate::views::views_of;
 use filters::BiquadState;
 use filters::Rng;
-use player::State;
-use player::Voice;
 use table::desk::DeskRead;
 use table::desk::Kind;
 use table::desk::for_voice;
 use table::entry::EntryView;
 use table::start::entries_start;
+use voice::State;
+use voice::Voice;
 use wire::cursor::Cursor;
 
 // The answer, and the voice: the blank one where the making is refused.

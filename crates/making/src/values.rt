@@ -5,7 +5,7 @@ ghost use lib.Ieee.Scale.{finite};
 ghost use Rattle.wire.specs.Parse.{Refusal};
 ghost use Rattle.table.specs.View.{entryAt};
 ghost use Rattle.table.specs.Answer.{foundBits};
-ghost use Rattle.player.specs.Voice.{pitchOk, stretchOk};
+ghost use Rattle.voice.specs.Voice.{pitchOk, stretchOk};
 ghost use Rattle.making.specs.Making.{f32, all, presentFinite, valuesOk, askValues};
 ghost use Rattle.making.specs.Views.{viewed, valuesThen};
 use table::Found;

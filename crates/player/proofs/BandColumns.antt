@@ -16,21 +16,21 @@ use Rattle.wire.specs.Parse.{pick}
 use Rattle.float.specs.Sqrt.{sqrt}
 use Rattle.float.proofs.Identities.{add-minus-zero}
 use Rattle.float.specs.F32.{_⊕_, _⊗_, nearest}
-use Rattle.player.specs.Lists.{Filled, FilledRows, steps, every}
+use Rattle.voice.specs.Lists.{Filled, FilledRows, steps, every}
 use Rattle.filters.specs.Biquad.{tickOf}
 use Rattle.player.specs.Bracket.{between}
-use Rattle.player.specs.Voice.{bandsAscend, liveOk, keepsRules}
-use Rattle.player.specs.Sound.{noCoeffs, noState, sidesAt, noiseRow, partialSum, noiseIn, Mix, addNoiseSingle, addNoiseBlend, blendPower, noiseTerm, bandStep, mixed, mixAt, sound, movedMemories, moved}
-use Rattle.player.specs.Parts.{coeffsAt, coeffsOf}
+use Rattle.voice.specs.Voice.{bandsAscend, liveOk, keepsRules, noCoeffs, noState}
+use Rattle.player.specs.Sound.{sidesAt, noiseRow, partialSum, noiseIn, Mix, addNoiseSingle, addNoiseBlend, blendPower, noiseTerm, bandStep, mixed, mixAt, sound, movedMemories, moved}
+use Rattle.voice.specs.Parts.{coeffsAt, coeffsOf}
 use Rattle.player.specs.Columns.{LiveIn, stateOfColumns, coeffsOfRows, Memories, Coeffs, Ticked, minusZero, singleTerm, blendTerm}
 use Rattle.player.specs.declared.bracket.Sides.{Sides}
 use Rattle.filters.specs.declared.biquad.BiquadState.{BiquadState}
 use Rattle.filters.specs.declared.biquad.Tick.{Tick}
 use Rattle.filters.specs.declared.rng.Rng.{Rng}
-use Rattle.player.specs.declared.voice.State.{State}
-use Rattle.player.specs.declared.voice.Voice.{Voice}
-use Rattle.player.proofs.Loops.{both-true, every-at}
-use Rattle.player.proofs.QuestionLaws.{kept}
+use Rattle.voice.specs.declared.voice.State.{State}
+use Rattle.voice.specs.declared.voice.Voice.{Voice}
+use Rattle.voice.proofs.Loops.{both-true, every-at}
+use Rattle.voice.proofs.QuestionLaws.{kept}
 use Rattle.player.proofs.ColumnLaws.{add-heard, steps-as}
 use Rattle.player.proofs.PartsLaws.{coeffs-at}
 use Rattle.player.proofs.SoundLaws.{mixOf, facts, live-below}

@@ -10,20 +10,20 @@ use lib.Ieee.{Float, nan, le, round}
 use borrow.Author.Tests.{eqb-true, leb-true}
 use Rattle.wire.specs.Parse.{pick}
 use Rattle.float.specs.F32.{nearest}
-use Rattle.player.specs.Lists.{mapTo, upTo, steps, every}
-use Rattle.player.specs.Input.{cleaned}
-use Rattle.player.specs.Voice.{pitchOk, stretchOk, rateOk, phasesOk, countsOk, entriesOk, liveOk, bandsAscend, pitchesAscend, keepsRules}
+use Rattle.voice.specs.Lists.{mapTo, upTo, steps, every}
+use Rattle.voice.specs.Input.{cleaned}
+use Rattle.voice.specs.Voice.{pitchOk, stretchOk, rateOk, phasesOk, countsOk, entriesOk, liveOk, bandsAscend, pitchesAscend, keepsRules}
 use Rattle.player.specs.Sound.{sidesAt, movedPhases, movedMemories, movedRng, partialTerm, partialSum, noiseTerm, bandStep, mixed, mixAt, sound, moved}
 use Rattle.player.specs.Block.{stateAt, channelOut}
-use Rattle.player.specs.Parts.{memoriesOf, voiceOf, stateOf, toneVoice, noiseVoice}
-use Rattle.player.specs.Passes.{phasesAt, rngAt, memoriesBefore, tonesOut, noisy, noisesOut}
+use Rattle.voice.specs.Parts.{memoriesOf, voiceOf, stateOf}
+use Rattle.player.specs.Passes.{toneVoice, noiseVoice, phasesAt, rngAt, memoriesBefore, tonesOut, noisy, noisesOut}
 use Rattle.filters.specs.declared.biquad.BiquadState.{BiquadState}
 use Rattle.filters.specs.declared.rng.Rng.{Rng}
-use Rattle.player.specs.declared.voice.Setting.{Setting}
-use Rattle.player.specs.declared.voice.State.{State}
-use Rattle.player.specs.declared.voice.Voice.{Voice}
-use Rattle.player.proofs.Loops.{both-true, at-every, steps-same, length-upTo, upTo-at, upTo-as, upTo-same}
-use Rattle.player.proofs.QuestionLaws.{Kept, kept}
+use Rattle.voice.specs.declared.voice.Setting.{Setting}
+use Rattle.voice.specs.declared.voice.State.{State}
+use Rattle.voice.specs.declared.voice.Voice.{Voice}
+use Rattle.voice.proofs.Loops.{both-true, at-every, steps-same, length-upTo, upTo-at, upTo-as, upTo-same}
+use Rattle.voice.proofs.QuestionLaws.{Kept, kept}
 use Rattle.player.proofs.SoundLaws.{still, silent}
 
 module _ (v : Voice) (freq : ℕ → Float) (g : ℕ → List Float) where

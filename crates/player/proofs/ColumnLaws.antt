@@ -14,13 +14,13 @@ use lib.Ieee.Fits.{add-fits}
 use Rattle.wire.specs.Parse.{pick}
 use Rattle.float.specs.F32.{_⊕_, nearest}
 use Rattle.float.proofs.Identities.{add-minus-zero}
-use Rattle.player.specs.Lists.{Filled, FilledRows, mapTo, steps}
+use Rattle.voice.specs.Lists.{Filled, FilledRows, mapTo, steps}
 use Rattle.filters.specs.Biquad.{tickOf}
-use Rattle.player.specs.Sound.{noState}
+use Rattle.voice.specs.Voice.{noState}
 use Rattle.player.specs.Columns.{added, heard, minusZero, stateOfColumns, coeffsOfRows, Memories, Ticked}
 use Rattle.filters.specs.declared.biquad.BiquadState.{BiquadState}
 use Rattle.filters.specs.declared.biquad.Tick.{Tick}
-use Rattle.player.proofs.Loops.{mapTo-at}
+use Rattle.voice.proofs.Loops.{mapTo-at}
 
 -- ---- a column that a loop fills
 -- the place that is written

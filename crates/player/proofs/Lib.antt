@@ -1,10 +1,8 @@
 pub mod Waves
 pub mod PhaseLaws
-pub mod Loops
 pub mod ColumnLaws
 pub mod PartsLaws
 pub mod RangeLaws
-pub mod QuestionLaws
 pub mod BracketLaws
 pub mod SoundLaws
 pub mod BandColumns

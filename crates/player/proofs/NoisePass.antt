@@ -9,10 +9,10 @@ use lib.Dec.{T, eqb}
 use lib.Ieee.{Float, nan, binary32, eq, fits}
 use Rattle.wire.specs.Parse.{pick}
 use Rattle.float.specs.Range.{Within}
-use Rattle.player.specs.Lists.{Filled, upTo, steps}
-use Rattle.player.specs.Input.{cleaned}
+use Rattle.voice.specs.Lists.{Filled, upTo, steps}
+use Rattle.voice.specs.Input.{cleaned}
 use Rattle.filters.specs.Rng.{nextBipolar}
-use Rattle.player.specs.Voice.{keepsRules}
+use Rattle.voice.specs.Voice.{keepsRules}
 use Rattle.player.specs.Sound.{sidesAt, noiseIn, movedMemories, movedRng, addNoiseSingle, addNoiseBlend, blendPower}
 use Rattle.player.specs.Passes.{rngAt, memoriesBefore, noisy, noisesOut}
 use Rattle.player.specs.Columns.{Memories, Coeffs, Ticked, stateOfColumns}
@@ -21,8 +21,8 @@ use Rattle.player.specs.declared.fixed.Fixed.{Fixed}
 use Rattle.filters.specs.declared.rng.Bipolar.{Bipolar}
 use Rattle.filters.specs.declared.rng.Rng.{Rng}
 use Rattle.player.specs.declared.tuning.NoiseTuning.{NoiseTuning}
-use Rattle.player.specs.declared.voice.Voice.{Voice}
-use Rattle.player.proofs.Loops.{steps-again, upTo-read, upTo-again, upTo-full}
+use Rattle.voice.specs.declared.voice.Voice.{Voice}
+use Rattle.voice.proofs.Loops.{steps-again, upTo-read, upTo-again, upTo-full}
 use Rattle.player.proofs.SoundLaws.{FixedOf}
 use Rattle.player.proofs.ToneLaws.{NoiseTunedTo, noise-stays, untuned-none}
 use Rattle.player.proofs.BandColumns.{AgreeOff, agree-same, agree-moved, length-memories, memories-moved, filtered-at, scattered, sum-is-sample}

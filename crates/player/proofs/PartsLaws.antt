@@ -12,20 +12,21 @@ use lib.Ieee.{Float, nan}
 use lib.ListN.{length, take, getD, set, length-set, List·getD-append}
 use lib.Seq.{take-suc, take-all, ext-getD, getD-set-same, getD-set-other, getD-append-seam, getD-append-add}
 use Rattle.wire.specs.Parse.{pick}
-use Rattle.player.specs.Lists.{joinTo, steps}
-use Rattle.player.specs.Input.{Gains, cleaned, frequencyAt}
-use Rattle.player.specs.Sound.{noState, noCoeffs, moved, movedPhases, movedMemories, movedRng}
-use Rattle.player.specs.Voice.{withState}
+use Rattle.voice.specs.Lists.{joinTo, steps}
+use Rattle.voice.specs.Input.{Gains, cleaned, frequencyAt}
+use Rattle.voice.specs.Voice.{noState, noCoeffs, withState}
+use Rattle.player.specs.Sound.{moved, movedPhases, movedMemories, movedRng}
 use Rattle.player.specs.Block.{stateAt, blockEnd}
-use Rattle.player.specs.Play.{Outcome, playQuestion, accepted, played}
-use Rattle.player.specs.Parts.{coeffsAt, memoryAt, coeffsOf, memoriesOf, laidOut}
+use Rattle.voice.specs.Question.{Outcome, playQuestion, accepted}
+use Rattle.player.specs.Play.{played}
+use Rattle.voice.specs.Parts.{coeffsAt, memoryAt, coeffsOf, memoriesOf, laidOut}
 use Rattle.filters.specs.declared.biquad.BiquadCoeffs.{BiquadCoeffs}
 use Rattle.filters.specs.declared.biquad.BiquadState.{BiquadState}
-use Rattle.player.specs.declared.input.Input.{Input}
+use Rattle.voice.specs.declared.input.Input.{Input}
 use Rattle.filters.specs.declared.rng.Rng.{Rng}
-use Rattle.player.specs.declared.voice.State.{State}
-use Rattle.player.specs.declared.voice.Voice.{Voice}
-use Rattle.player.proofs.Loops.{upTo-at, length-upTo, length-joinTo}
+use Rattle.voice.specs.declared.voice.State.{State}
+use Rattle.voice.specs.declared.voice.Voice.{Voice}
+use Rattle.voice.proofs.Loops.{upTo-at, length-upTo, length-joinTo}
 use Rattle.player.proofs.ColumnLaws.{one-more, set-at-place, set-before}
 
 -- ---- what lies flat, band by band

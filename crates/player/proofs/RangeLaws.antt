@@ -20,11 +20,11 @@ use Rattle.float.proofs.Bounds.{le-or-lt, up-to-self, round-neg, mul-neg}
 use Rattle.float.proofs.Fraction.{widen}
 use Rattle.float.specs.F32.{_⊕_, nearest}
 use Rattle.player.specs.Phase.{Phase, Step, advanceOf, stepOf}
-use Rattle.player.specs.Lists.{mapTo}
-use Rattle.player.specs.Voice.{phaseOk, pitchOk, stretchOk, phasesOk}
+use Rattle.voice.specs.Lists.{mapTo}
+use Rattle.voice.specs.Voice.{phaseOk, pitchOk, stretchOk, phasesOk}
 use Rattle.player.specs.Sound.{partialRow}
 use Rattle.player.specs.declared.bracket.Sides.{Sides}
-use Rattle.player.proofs.Loops.{both-true, every-at, mapTo-read}
+use Rattle.voice.proofs.Loops.{both-true, every-at, mapTo-read}
 use Rattle.player.proofs.PhaseLaws.{sum-within, advance-phase, freq-within, stretch-within}
 
 pub hold : (b : Bool) → b ≡ true → T b

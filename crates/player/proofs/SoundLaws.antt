@@ -13,28 +13,28 @@ use Rattle.float.specs.Range.{Within}
 use Rattle.float.proofs.Within.{le→cross}
 use Rattle.float.proofs.Fraction.{not-lt}
 use Rattle.float.specs.F32.{_⊗_, nearest}
-use Rattle.player.specs.Lists.{mapTo, upTo, steps, every}
+use Rattle.voice.specs.Lists.{mapTo, upTo, steps, every}
 use Rattle.filters.specs.Rate.{Rate}
 use Rattle.player.specs.Phase.{advanceOf, inverseOf, partialFreq, stepOf}
 use Rattle.player.specs.Fade.{nyquistFade}
 use Rattle.filters.specs.Biquad.{tickOf}
 use Rattle.filters.specs.Rng.{nextBipolar}
-use Rattle.player.specs.Input.{inputAt, frequencyAt, frequencyOk, frequenciesOk, InputFits, cleaned}
+use Rattle.voice.specs.Input.{inputAt, frequencyAt, frequencyOk, frequenciesOk, InputFits, cleaned}
 use Rattle.player.specs.Bracket.{SidesIn, between}
-use Rattle.player.specs.Voice.{phaseOk, pitchOk, stretchOk, phasesOk, countsOk, entriesOk, liveOk, pitchesAscend, bandsAscend, keepsRules}
-use Rattle.player.specs.Sound.{noCoeffs, noState, sidesAt, partialRow, noiseRow, movedPhases, addSingle, addBlend, blendCoeff, partialTerm, partialSum, noiseIn, movedRng, Mix, addNoiseSingle, addNoiseBlend, blendPower, noiseTerm, bandStep, mixed, mixAt, sound, movedMemories, moved}
+use Rattle.voice.specs.Voice.{phaseOk, pitchOk, stretchOk, phasesOk, countsOk, entriesOk, liveOk, pitchesAscend, bandsAscend, keepsRules, noCoeffs, noState}
+use Rattle.player.specs.Sound.{sidesAt, partialRow, noiseRow, movedPhases, addSingle, addBlend, blendCoeff, partialTerm, partialSum, noiseIn, movedRng, Mix, addNoiseSingle, addNoiseBlend, blendPower, noiseTerm, bandStep, mixed, mixAt, sound, movedMemories, moved}
 use Rattle.player.specs.Block.{stateAt, channelOut}
 use Rattle.player.specs.declared.bracket.Sides.{Sides}
 use Rattle.filters.specs.declared.biquad.BiquadState.{BiquadState}
 use Rattle.filters.specs.declared.biquad.Tick.{Tick}
 use Rattle.player.specs.declared.fixed.Fixed.{Fixed}
-use Rattle.player.specs.declared.input.Input.{Input}
+use Rattle.voice.specs.declared.input.Input.{Input}
 use Rattle.player.specs.declared.pitch.Pitch.{Pitch}
 use Rattle.filters.specs.declared.rng.Rng.{Rng}
-use Rattle.player.specs.declared.voice.State.{State}
-use Rattle.player.specs.declared.voice.Voice.{Voice}
-use Rattle.player.proofs.Loops.{both-true, every-at, at-every, mapTo-at, steps-again, steps-same, upTo-again, upTo-full, length-upTo, input-index}
-use Rattle.player.proofs.QuestionLaws.{kept, counts-are}
+use Rattle.voice.specs.declared.voice.State.{State}
+use Rattle.voice.specs.declared.voice.Voice.{Voice}
+use Rattle.voice.proofs.Loops.{both-true, every-at, at-every, mapTo-at, steps-again, steps-same, upTo-again, upTo-full, length-upTo, input-index}
+use Rattle.voice.proofs.QuestionLaws.{kept, counts-are}
 use Rattle.player.proofs.PhaseLaws.{inverse-within}
 use Rattle.player.proofs.RangeLaws.{hold, advance-ok, phase-passes, step-small}
 use Rattle.filters.proofs.Tests.{rate-is}

@@ -11,11 +11,11 @@ use Rattle.wire.specs.Parse.{pick}
 use Rattle.float.specs.Range.{Within}
 use Rattle.float.proofs.Identities.{same-float}
 use Rattle.float.specs.F32.{_⊕_, _⊗_, nearest}
-use Rattle.player.specs.Lists.{Filled, FilledRows, mapTo, steps, every}
+use Rattle.voice.specs.Lists.{Filled, FilledRows, mapTo, steps, every}
 use Rattle.filters.specs.Wave.{sineOf}
 use Rattle.player.specs.Phase.{AllPhases, AllSteps, Phase, Step, advanceOf, partialFreq, stepOf}
 use Rattle.player.specs.Fade.{nyquistFade}
-use Rattle.player.specs.Voice.{phaseOk, phasesOk}
+use Rattle.voice.specs.Voice.{phaseOk, phasesOk}
 use Rattle.player.specs.Sound.{sidesAt, stepAt, fadeAt, partialRow, noiseRow, movedPhases, addSingle, addBlend, blendCoeff, partialTerm, partialSum}
 use Rattle.player.specs.Bracket.{bracketOf, sidesOf, between}
 use Rattle.player.specs.Columns.{added}
@@ -25,8 +25,8 @@ use Rattle.player.specs.declared.fixed.Fixed.{Fixed}
 use Rattle.player.specs.declared.pitch.Pitch.{Pitch}
 use Rattle.player.specs.declared.tuning.NoiseTuning.{NoiseTuning}
 use Rattle.player.specs.declared.tuning.Tuning.{Tuning}
-use Rattle.player.specs.declared.voice.Voice.{Voice}
-use Rattle.player.proofs.Loops.{every-at, at-every, mapTo-at}
+use Rattle.voice.specs.declared.voice.Voice.{Voice}
+use Rattle.voice.proofs.Loops.{every-at, at-every, mapTo-at}
 use Rattle.player.proofs.ColumnLaws.{steps-as}
 use Rattle.player.proofs.RangeLaws.{advance-ok, phase-passes, step-small}
 use Rattle.player.proofs.SoundLaws.{FixedOf, phase-inside}

@@ -11,13 +11,13 @@ use Rattle.wire.specs.Parse.{pick}
 use Rattle.float.specs.Range.{Within}
 use Rattle.float.proofs.Identities.{same-float}
 use Rattle.float.specs.F32.{_⊗_, nearest}
-use Rattle.player.specs.Lists.{Filled, mapTo, upTo, steps}
+use Rattle.voice.specs.Lists.{Filled, mapTo, upTo, steps}
 use Rattle.filters.specs.Wave.{sineOf}
 use Rattle.player.specs.Phase.{advanceOf, inverseOf, stepOf, partialFreq}
 use Rattle.player.specs.Fade.{nyquistFade}
-use Rattle.player.specs.Input.{cleaned}
+use Rattle.voice.specs.Input.{cleaned}
 use Rattle.player.specs.Bracket.{between}
-use Rattle.player.specs.Voice.{phaseOk, phasesOk}
+use Rattle.voice.specs.Voice.{phaseOk, phasesOk}
 use Rattle.player.specs.Sound.{sidesAt, partialRow, blendCoeff, addSingle, addBlend, partialTerm, partialSum, movedPhases}
 use Rattle.player.specs.Passes.{phasesAt, tonesOut}
 use Rattle.player.specs.Columns.{added}
@@ -25,8 +25,8 @@ use Rattle.player.specs.Tuning.{PitchAt}
 use Rattle.player.specs.declared.fixed.Fixed.{Fixed}
 use Rattle.player.specs.declared.pitch.Pitch.{Pitch}
 use Rattle.player.specs.declared.tuning.Tuning.{Tuning}
-use Rattle.player.specs.declared.voice.Voice.{Voice}
-use Rattle.player.proofs.Loops.{steps-again, every-at, at-every, mapTo-at, upTo-again, upTo-full}
+use Rattle.voice.specs.declared.voice.Voice.{Voice}
+use Rattle.voice.proofs.Loops.{steps-again, every-at, at-every, mapTo-at, upTo-again, upTo-full}
 use Rattle.player.proofs.RangeLaws.{advance-ok, phase-passes, step-small}
 use Rattle.player.proofs.SoundLaws.{FixedOf, Facts, inverse-small, phase-inside}
 use Rattle.player.proofs.ToneLaws.{TunedTo, TunedVoice, tuned-voice, stays, untuned-none, moved-phases, phases-kept, tone-sound}

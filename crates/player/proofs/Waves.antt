@@ -19,7 +19,7 @@ use Rattle.float.proofs.Within.{mul-within}
 use Rattle.float.proofs.Compare.{below-within}
 use Rattle.float.proofs.Fraction.{whole-is, widen}
 use Rattle.float.proofs.Ints.{abs-in-float}
-use Rattle.player.specs.Lists.{Filled}
+use Rattle.voice.specs.Lists.{Filled}
 use Rattle.player.specs.Phase.{Phase, AllPhases}
 use Rattle.wave_table.specs.Wave.{quarterOf, waveOf, Waves}
 use Rattle.filters.specs.Wave.{placeOf, cellOf, restOf, sineOf}

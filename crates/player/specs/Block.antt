@@ -2,12 +2,12 @@
 use Prim.Native.Nat.{ℕ}
 use mathlib.Core.List.{List}
 use lib.Ieee.{Float}
-use Rattle.player.specs.Lists.{upTo, steps, joinTo}
-use Rattle.player.specs.Input.{Gains, frequencyAt, gainsAt, cleaned}
+use Rattle.voice.specs.Lists.{upTo, steps, joinTo}
+use Rattle.voice.specs.Input.{Gains, frequencyAt, gainsAt, cleaned}
 use Rattle.player.specs.Sound.{moved, sound}
-use Rattle.player.specs.declared.input.Input.{Input}
-use Rattle.player.specs.declared.voice.State.{State}
-use Rattle.player.specs.declared.voice.Voice.{Voice}
+use Rattle.voice.specs.declared.input.Input.{Input}
+use Rattle.voice.specs.declared.voice.State.{State}
+use Rattle.voice.specs.declared.voice.Voice.{Voice}
 
 -- the state before sample i of a channel, where freq gives its frequencies
 unfoldable pub stateAt : Voice → (ℕ → Float) → ℕ → State

@@ -9,7 +9,7 @@ use lib.Ieee.{Float, nan, fin, ne}
 use Rattle.wire.specs.Parse.{pick}
 use Rattle.float.specs.F32.{_⊕_, _⊗_, nearest}
 use Rattle.filters.specs.Biquad.{tickOf}
-use Rattle.player.specs.Sound.{noState, noCoeffs}
+use Rattle.voice.specs.Voice.{noState, noCoeffs}
 use Rattle.filters.specs.declared.biquad.BiquadCoeffs.{BiquadCoeffs}
 use Rattle.filters.specs.declared.biquad.BiquadState.{BiquadState}
 

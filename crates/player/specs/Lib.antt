@@ -2,14 +2,10 @@ pub mod Sines
 pub mod Phase
 pub mod Share
 pub mod Fade
-pub mod Lists
-pub mod Input
 pub mod Bracket
-pub mod Voice
 pub mod Sound
 pub mod Columns
 pub mod Block
-pub mod Parts
 pub mod Passes
 pub mod Play
 pub mod Tuning

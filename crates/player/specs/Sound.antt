@@ -9,26 +9,19 @@ use Rattle.wire.specs.Parse.{pick}
 use Rattle.float.specs.Lerp.{lerp}
 use Rattle.float.specs.Sqrt.{sqrt}
 use Rattle.float.specs.F32.{_⊕_, _⊗_, nearest}
-use Rattle.player.specs.Lists.{mapTo, steps}
+use Rattle.voice.specs.Lists.{mapTo, steps}
 use Rattle.filters.specs.Wave.{sineOf}
 use Rattle.player.specs.Phase.{advanceOf, inverseOf, partialFreq, stepOf}
 use Rattle.player.specs.Fade.{nyquistFade}
 use Rattle.filters.specs.Rng.{nextBipolar}
 use Rattle.filters.specs.Biquad.{tickOf, cleared}
 use Rattle.player.specs.Bracket.{bracketOf, sidesOf, between}
+use Rattle.voice.specs.Voice.{noCoeffs, noState}
 use Rattle.player.specs.declared.bracket.Sides.{Sides}
-use Rattle.filters.specs.declared.biquad.BiquadCoeffs.{BiquadCoeffs}
 use Rattle.filters.specs.declared.biquad.BiquadState.{BiquadState}
 use Rattle.filters.specs.declared.rng.Rng.{Rng}
-use Rattle.player.specs.declared.voice.State.{State}
-use Rattle.player.specs.declared.voice.Voice.{Voice}
-
--- what an element past the end of a list of bands or memories is
-abbrev pub noCoeffs : BiquadCoeffs
-noCoeffs = record { b0 = nan; b1 = nan; b2 = nan; a1 = nan; a2 = nan }
-
-abbrev pub noState : BiquadState
-noState = record { z1 = nan; z2 = nan }
+use Rattle.voice.specs.declared.voice.State.{State}
+use Rattle.voice.specs.declared.voice.Voice.{Voice}
 
 -- ---- what a frequency f0 decides
 unfoldable pub sidesAt : Voice → Float → Sides

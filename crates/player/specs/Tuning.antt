@@ -8,7 +8,7 @@ use lib.Dec.{eqb}
 use lib.Ieee.{Float, nan, le}
 use Rattle.wire.specs.Parse.{pick}
 use Rattle.float.specs.F32.{nearest}
-use Rattle.player.specs.Lists.{Filled, FilledRows, every}
+use Rattle.voice.specs.Lists.{Filled, FilledRows, every}
 use Rattle.player.specs.Phase.{AllSteps, partialFreq, stepOf}
 use Rattle.player.specs.Fade.{nyquistFade}
 use Rattle.float.specs.Range.{Within}

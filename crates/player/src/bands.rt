@@ -3,8 +3,8 @@ ghost use mathlib.Core.Path.{_≡_};
 ghost use Prim.Native.Nat.{_≤_, _<_, _+_, _*_};
 ghost use lib.ListN.{length, getD, set};
 ghost use lib.Ieee.{nan};
-ghost use Rattle.player.specs.Lists.{Filled, FilledRows, steps};
-ghost use Rattle.player.specs.Parts.{memoriesOf, coeffsOf};
+ghost use Rattle.voice.specs.Lists.{Filled, FilledRows, steps};
+ghost use Rattle.voice.specs.Parts.{memoriesOf, coeffsOf};
 ghost use Rattle.player.specs.Columns.{LiveIn, stateOfColumns, Memories, Coeffs, Ticked};
 
 // The memories of the live bands.

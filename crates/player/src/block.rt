@@ -3,14 +3,14 @@ ghost use mathlib.Core.Path.{_≡_};
 ghost use mathlib.Core.Bool.{true};
 ghost use Prim.Native.Nat.{_≤_, _*_};
 ghost use lib.ListN.{length};
-ghost use Rattle.player.specs.Input.{InputFits, frequenciesOk, gains};
-ghost use Rattle.player.specs.Voice.{keepsRules};
-ghost use Rattle.player.specs.Parts.{voiceOf, stateOf, memoriesOf};
+ghost use Rattle.voice.specs.Input.{InputFits, frequenciesOk, gains};
+ghost use Rattle.voice.specs.Voice.{keepsRules};
+ghost use Rattle.voice.specs.Parts.{voiceOf, stateOf, memoriesOf};
 ghost use Rattle.player.specs.Block.{blockOut, blockEnd};
 use crate::channel::channel_of;
-use crate::input::Input;
-use crate::voice::Setting;
 use filters::Rng;
+use voice::Input;
+use voice::Setting;
 
 // A column by itself.
 fn copied(xs: &[f32]) -> [f32; 32]

@@ -5,9 +5,9 @@ ghost use Prim.Native.Nat.{_≤_};
 ghost use lib.ListN.{getD};
 ghost use lib.Ieee.{nan, le};
 ghost use Rattle.float.specs.Range.{Within};
-ghost use Rattle.player.specs.Lists.{every};
+ghost use Rattle.voice.specs.Lists.{every};
 ghost use Rattle.player.specs.Share.{shareOf};
-ghost use Rattle.player.specs.Voice.{pitchOk};
+ghost use Rattle.voice.specs.Voice.{pitchOk};
 ghost use Rattle.player.specs.Bracket.{notAbove, bracketOf, sidesOf, SidesIn, between};
 
 // One entry by its index, or two neighbours with the share between them.

@@ -5,18 +5,18 @@ ghost use mathlib.Core.Bool.{true};
 ghost use Prim.Native.Nat.{_≤_};
 ghost use lib.ListN.{length};
 ghost use Rattle.float.specs.F32.{nearest};
-ghost use Rattle.player.specs.Lists.{upTo};
-ghost use Rattle.player.specs.Input.{InputFits, frequenciesOk, frequencyAt, gains, gainsAt};
-ghost use Rattle.player.specs.Voice.{keepsRules};
-ghost use Rattle.player.specs.Parts.{voiceOf, stateOf, memoriesOf, toneVoice};
-ghost use Rattle.player.specs.Passes.{phasesAt, tonesOut};
+ghost use Rattle.voice.specs.Lists.{upTo};
+ghost use Rattle.voice.specs.Input.{InputFits, frequenciesOk, frequencyAt, gains, gainsAt};
+ghost use Rattle.voice.specs.Voice.{keepsRules};
+ghost use Rattle.voice.specs.Parts.{voiceOf, stateOf, memoriesOf};
+ghost use Rattle.player.specs.Passes.{toneVoice, phasesAt, tonesOut};
 ghost use Rattle.player.specs.Block.{stateAt, channelOut};
 use crate::few::few_tones;
-use crate::input::Input;
 use crate::noises::noises;
 use crate::tones::tones;
-use crate::voice::Setting;
 use filters::Rng;
+use voice::Input;
+use voice::Setting;
 
 fn silence(samples: usize, out: &mut [f32])
     requires { ⌜ length (now out) ≡ samples ⌝ }

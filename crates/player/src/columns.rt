@@ -1,12 +1,12 @@
 // Columns of floats: 32 places, of which the first n are in use. One loop over a column does one thing, so that the processor does several places at once.
 // A column that is written is taken as a slice: then the proof knows how long it is.
 ghost use mathlib.Core.Path.{_≡_};
+ghost use mathlib.Core.Bool.{_&&_};
 ghost use Prim.Native.Nat.{_≤_};
 ghost use lib.ListN.{getD};
 ghost use lib.Ieee.{nan, le};
 ghost use Rattle.float.specs.F32.{_⊕_};
-ghost use Rattle.player.specs.Lists.{Filled, every, steps};
-use crate::rules::both;
+ghost use Rattle.voice.specs.Lists.{Filled, every, steps};
 
 // The same number in the first n places.
 pub fn fill(xs: &mut [f32; 32], n: usize, x: f32)
@@ -33,6 +33,12 @@ pub fn sum_of(y: f32, xs: &[f32; 32], n: usize) -> f32
         i += 1;
     }
     sum
+}
+
+fn both(a: bool, b: bool) -> bool
+    ensures { λ r. ⌜ r ≡ a && b ⌝ }
+{
+    if a { b } else { false }
 }
 
 // Whether none of the first n places is above the limit, or a NaN.

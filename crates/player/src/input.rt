@@ -1,17 +1,12 @@
-// The inputs of a block, and the questions that they answer.
+// What a block reads of its inputs.
 ghost use mathlib.Core.Path.{_≡_};
-ghost use Prim.Native.Nat.{_<_, _≤_};
+ghost use Prim.Native.Nat.{_<_};
 ghost use mathlib.Core.Bool.{false};
 ghost use lib.Dec.{eqb};
 ghost use lib.Ieee.{nan};
 ghost use lib.ListN.{length, getD};
-ghost use Rattle.player.specs.Input.{inputAt, frequencyAt, gains, gainsAt, InputFits, inputOk, cleaned, startOf};
-
-// Unconnected, or as many channels of the block's length in the slice beside it.
-pub enum Input {
-    Unconnected,
-    Channels(usize),
-}
+ghost use Rattle.voice.specs.Input.{inputAt, frequencyAt, gains, gainsAt, InputFits, cleaned, startOf};
+use voice::Input;
 
 // Where the part of output channel ch starts: input channel ch modulo the input's channels.
 pub fn start_of(input: Input, len: usize, samples: usize, ch: usize) -> usize
@@ -60,23 +55,6 @@ pub fn clean(f: f32) -> f32
         if 0.0 < f { f } else { 0.0 }
     } else {
         0.0
-    }
-}
-
-// Question 15 of one input.
-pub fn input_ok(input: Input, samples: usize, len: usize) -> bool
-    requires { ⌜ samples ≤ 128 ⌝ }
-    ensures { λ r. ⌜ r ≡ inputOk input samples len ⌝ }
-{
-    match input {
-        Input::Unconnected => true,
-        Input::Channels(k) => {
-            if 1 <= k {
-                if k <= 8 { k * samples == len } else { false }
-            } else {
-                false
-            }
-        }
     }
 }
 

@@ -1,7 +1,7 @@
 // The bands of a voice laid out flat, as a C struct has them in memory, and the memories back.
 ghost use mathlib.Core.Path.{_≡_};
 ghost use lib.ListN.{length};
-ghost use Rattle.player.specs.Parts.{coeffsOf, memoriesOf};
+ghost use Rattle.voice.specs.Parts.{coeffsOf, memoriesOf};
 use filters::BiquadCoeffs;
 use filters::BiquadState;
 

@@ -1,5 +1,4 @@
-// Voices: one sample at a time in the private modules, then blocks, and the calls on a voice.
-mod answer;
+// Playing a voice: one sample at a time in the private modules, then channels, blocks, and the two plays.
 mod bands;
 mod block;
 mod bracket;
@@ -18,28 +17,13 @@ mod phase;
 mod phases;
 mod pitch;
 mod playing;
-mod question;
-mod restart;
-mod rules;
 mod sines;
 mod stretch;
 mod tone;
 mod tones;
 mod tuning;
-mod voice;
 mod whole;
 
-pub use answer::PlayAnswer;
-pub use answer::Played;
-pub use filters::BiquadCoeffs;
-pub use filters::BiquadState;
-pub use filters::Rng;
-pub use input::Input;
 pub use playing::Lent;
 pub use playing::play;
 pub use playing::play_lent;
-pub use restart::reseed;
-pub use restart::reset;
-pub use voice::Setting;
-pub use voice::State;
-pub use voice::Voice;

@@ -7,7 +7,7 @@ ghost use lib.Ieee.{nan};
 ghost use Rattle.wire.specs.Parse.{pick};
 ghost use Rattle.float.specs.Sqrt.{sqrt};
 ghost use Rattle.float.specs.F32.{_⊕_, _⊗_};
-ghost use Rattle.player.specs.Lists.{Filled, FilledRows, steps};
+ghost use Rattle.voice.specs.Lists.{Filled, FilledRows, steps};
 ghost use Rattle.player.specs.Bracket.{SidesIn};
 ghost use Rattle.player.specs.Columns.{LiveIn, singleTerm, blendTerm};
 ghost use Rattle.filters.specs.Rng.{nextBipolar};

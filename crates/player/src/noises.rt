@@ -4,17 +4,16 @@ ghost use mathlib.Core.Path.{_≡_};
 ghost use mathlib.Core.Bool.{true};
 ghost use Prim.Native.Nat.{_≤_};
 ghost use lib.ListN.{length};
-ghost use Rattle.player.specs.Input.{InputFits, frequenciesOk, frequencyAt, gains, gainsAt};
-ghost use Rattle.player.specs.Voice.{keepsRules};
-ghost use Rattle.player.specs.Parts.{noiseVoice, memoriesOf};
-ghost use Rattle.player.specs.Passes.{rngAt, memoriesBefore, noisesOut};
+ghost use Rattle.voice.specs.Input.{InputFits, frequenciesOk, frequencyAt, gains, gainsAt};
+ghost use Rattle.voice.specs.Voice.{keepsRules};
+ghost use Rattle.player.specs.Passes.{noiseVoice, rngAt, memoriesBefore, noisesOut};
+ghost use Rattle.voice.specs.Parts.{memoriesOf};
 use crate::bands::gather_coeffs;
 use crate::bands::gather_makeup;
 use crate::bands::gather_memories;
 use crate::bands::scatter_memories;
 use crate::bands::tick_bands;
 use crate::fixed::fixed_of;
-use crate::input::Input;
 use crate::input::frequency_at;
 use crate::input::gain_starts;
 use crate::input::gains_at;
@@ -23,8 +22,9 @@ use crate::noise::noise_step;
 use crate::noise::noise_sum;
 use crate::tuning::noise_untuned;
 use crate::tuning::tune_noise;
-use crate::voice::Setting;
 use filters::Rng;
+use voice::Input;
+use voice::Setting;
 
 pub fn noises<'a>(
     set: Setting,

@@ -3,7 +3,7 @@ ghost use mathlib.Core.Path.{_≡_};
 ghost use mathlib.Core.Bool.{true};
 ghost use Prim.Native.Nat.{_≤_};
 ghost use Rattle.player.specs.Phase.{Step, advanceOf, partialFreq};
-ghost use Rattle.player.specs.Voice.{phaseOk};
+ghost use Rattle.voice.specs.Voice.{phaseOk};
 use crate::whole::floor;
 
 // Most steps are small: the whole part is 0 or 1.

@@ -5,9 +5,9 @@ ghost use Prim.Native.Nat.{_≤_};
 ghost use lib.ListN.{getD};
 ghost use lib.Ieee.{nan, le};
 ghost use Rattle.float.specs.F32.{nearest};
-ghost use Rattle.player.specs.Lists.{every, mapTo};
+ghost use Rattle.voice.specs.Lists.{every, mapTo};
 ghost use Rattle.player.specs.Phase.{AllSteps, advanceOf};
-ghost use Rattle.player.specs.Voice.{phasesOk};
+ghost use Rattle.voice.specs.Voice.{phasesOk};
 use crate::phase::advance;
 
 // Where no step is above 31/32, a sum is below 2: its whole part is 0 or 1.

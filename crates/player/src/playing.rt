@@ -2,22 +2,23 @@
 ghost use mathlib.Core.Path.{_≡_};
 ghost use Prim.Native.Nat.{_≤_};
 ghost use lib.ListN.{length};
-ghost use Rattle.player.specs.Input.{gains};
-ghost use Rattle.player.specs.Parts.{voiceOf, stateOf, laidOut};
-ghost use Rattle.player.specs.Play.{playNumber, outcomeOf, lentOf, played, playedOut};
-use crate::answer::PlayAnswer;
-use crate::answer::Played;
+ghost use Rattle.voice.specs.Input.{gains};
+ghost use Rattle.voice.specs.Parts.{voiceOf, stateOf, laidOut};
+ghost use Rattle.voice.specs.Question.{playNumber, outcomeOf};
+ghost use Rattle.player.specs.Play.{lentOf, played, playedOut};
 use crate::block::block_of;
-use crate::input::Input;
 use crate::laid::laid_coeffs;
 use crate::laid::laid_memories;
 use crate::laid::memories_of;
-use crate::question::play_question;
-use crate::rules::setting_of;
-use crate::voice::Setting;
-use crate::voice::State;
-use crate::voice::Voice;
 use filters::Rng;
+use voice::Input;
+use voice::PlayAnswer;
+use voice::Played;
+use voice::Setting;
+use voice::State;
+use voice::Voice;
+use voice::play_question;
+use voice::setting_of;
 
 // The answer of a number of 13 to 16.
 fn answer_of(q: u32) -> PlayAnswer

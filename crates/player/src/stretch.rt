@@ -6,7 +6,7 @@ ghost use lib.Ieee.{nan};
 ghost use Rattle.float.specs.Lerp.{lerp};
 ghost use Rattle.float.specs.Range.{Within};
 ghost use Rattle.player.specs.Bracket.{SidesIn, between};
-ghost use Rattle.player.specs.Voice.{stretchOk};
+ghost use Rattle.voice.specs.Voice.{stretchOk};
 use crate::bracket::Sides;
 
 fn stretch_of(lo: f32, hi: f32, t: f32) -> f32

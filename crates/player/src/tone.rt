@@ -6,7 +6,7 @@ ghost use lib.Dec.{eqb};
 ghost use lib.Ieee.{nan};
 ghost use Rattle.wire.specs.Parse.{pick};
 ghost use Rattle.float.specs.F32.{_⊕_, _⊗_, nearest};
-ghost use Rattle.player.specs.Lists.{Filled, steps};
+ghost use Rattle.voice.specs.Lists.{Filled, steps};
 ghost use Rattle.player.specs.Sound.{blendCoeff};
 ghost use Rattle.player.specs.Columns.{heard, added};
 use crate::columns::fill;

@@ -4,12 +4,10 @@ ghost use mathlib.Core.Path.{_≡_};
 ghost use mathlib.Core.Bool.{true};
 ghost use Prim.Native.Nat.{_≤_};
 ghost use lib.ListN.{length};
-ghost use Rattle.player.specs.Input.{InputFits, frequenciesOk, frequencyAt, gains, gainsAt};
-ghost use Rattle.player.specs.Voice.{keepsRules};
-ghost use Rattle.player.specs.Parts.{toneVoice};
-ghost use Rattle.player.specs.Passes.{phasesAt, tonesOut};
+ghost use Rattle.voice.specs.Input.{InputFits, frequenciesOk, frequencyAt, gains, gainsAt};
+ghost use Rattle.voice.specs.Voice.{keepsRules};
+ghost use Rattle.player.specs.Passes.{toneVoice, phasesAt, tonesOut};
 use crate::fixed::fixed_of;
-use crate::input::Input;
 use crate::input::frequency_at;
 use crate::input::gain_starts;
 use crate::input::gains_at;
@@ -19,7 +17,8 @@ use crate::sines::sines_of;
 use crate::tone::tone_sum;
 use crate::tuning::tune;
 use crate::tuning::untuned;
-use crate::voice::Setting;
+use voice::Input;
+use voice::Setting;
 use wave_table::waves;
 
 pub fn tones<'a>(

@@ -9,26 +9,26 @@ use crate::list::float_at;
 use crate::list::place;
 use crate::list::plus;
 use crate::list::word;
+use crate::places::after_changes;
+use crate::places::blank;
+use crate::places::changed;
+use crate::places::same_voice;
+use crate::places::without_unread;
 use crate::tally::Tally;
 use crate::tally::answered;
 use crate::tally::more;
 use crate::tally::narrow;
 use crate::tally::same;
 use crate::tally::same_float;
-use crate::voice::after_changes;
-use crate::voice::blank;
-use crate::voice::changed;
-use crate::voice::same_voice;
-use crate::voice::without_unread;
 use filters::BiquadCoeffs;
 use filters::biquad_noise_power_gain;
-use player::Voice;
 use sounder::Answer;
 use sounder::PlayedAnswer;
 use sounder::player_door::sounder_make;
 use sounder::player_door::sounder_play;
 use sounder::player_door::sounder_reseed;
 use sounder::player_door::sounder_reset;
+use voice::Voice;
 
 // What a call leaves: the counts, the voice that the list goes on with, and where the next call stands.
 struct Step {

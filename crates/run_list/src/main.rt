@@ -1,9 +1,9 @@
 // Runs at the limits: each line is what was asked, and the number of the answer (0: accepted). The expected lines in `stdout` are document 01's.
 mod images;
 
-use player::Voice;
 use sounder::player_door::sounder_make;
 use sounder::player_door::sounder_play;
+use voice::Voice;
 
 fn say(what: &[u8], number: u32) {
     io::write_all(1, what);

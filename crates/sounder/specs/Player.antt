@@ -1,9 +1,9 @@
 -- The answers on voices as they cross to C.
 use Prim.Native.Nat.{ℕ, zero, suc}
-use Rattle.player.specs.declared.input.Input.{Input}
+use Rattle.voice.specs.declared.input.Input.{Input}
 use Rattle.filters.specs.declared.rng.Rng.{Rng}
 use Rattle.making.specs.Making.{Made}
-use Rattle.player.specs.Play.{Outcome}
+use Rattle.voice.specs.Question.{Outcome}
 use Rattle.sounder.specs.Answer.{refusalAnswer}
 use Rattle.sounder.specs.declared.lent_door.LentAnswer.{LentAnswer}
 use Rattle.sounder.specs.declared.player_door.MadeAnswer.{MadeAnswer}

@@ -1,7 +1,7 @@
 // The inputs as they cross from C.
 ghost use mathlib.Core.Path.{_≡_};
 ghost use Rattle.sounder.specs.Player.{inputOf};
-use player::Input;
+use voice::Input;
 
 // An input by its number of channels: 0 is unconnected.
 pub fn input_of(channels: usize) -> Input

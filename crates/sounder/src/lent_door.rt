@@ -1,14 +1,14 @@
 // Playing a voice where it lies: nothing of it is copied, which tells in short blocks.
 ghost use mathlib.Core.Path.{_≡_};
 ghost use lib.ListN.{length};
-ghost use Rattle.player.specs.Input.{gains};
-ghost use Rattle.player.specs.Parts.{voiceOf, stateOf, laidOut};
+ghost use Rattle.voice.specs.Input.{gains};
+ghost use Rattle.voice.specs.Parts.{voiceOf, stateOf, laidOut};
 ghost use Rattle.player.specs.Play.{played, playedOut};
 ghost use Rattle.sounder.specs.Player.{lentAnswer, rngOf, inputOf};
 use crate::input::input_of;
-use player::Rng;
-use player::Setting;
 use player::play_lent;
+use voice::Rng;
+use voice::Setting;
 
 // 0, or the number of the question that was answered no; and the noise number after the call.
 #[repr(C)]

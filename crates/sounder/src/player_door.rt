@@ -1,11 +1,13 @@
 // Making voices, and playing them.
 ghost use mathlib.Core.Path.{_≡_};
 ghost use lib.ListN.{length};
-ghost use Rattle.player.specs.Input.{gains};
+ghost use Rattle.voice.specs.Input.{gains};
 ghost use Rattle.filters.specs.Compensation.{noisePowerGain};
 ghost use Rattle.making.specs.Making.{makeOf};
 ghost use Rattle.making.specs.MakeAnswer.{makeRefusal};
-ghost use Rattle.player.specs.Play.{playNumber, played, playedOut, resetOf, reseedOf};
+ghost use Rattle.voice.specs.Question.{playNumber};
+ghost use Rattle.player.specs.Play.{played, playedOut};
+ghost use Rattle.voice.specs.Restart.{resetOf, reseedOf};
 ghost use Rattle.sounder.specs.Answer.{refusalAnswer, kindOf};
 ghost use Rattle.sounder.specs.Player.{madeAnswer, playedAnswer, inputOf};
 use crate::answer::Answer;
@@ -16,12 +18,12 @@ use filters::NoisePower;
 use filters::biquad_noise_power_gain;
 use making::MakeAnswer;
 use making::make;
-use player::BiquadCoeffs;
-use player::PlayAnswer;
-use player::Voice;
 use player::play;
-use player::reseed;
-use player::reset;
+use voice::BiquadCoeffs;
+use voice::PlayAnswer;
+use voice::Voice;
+use voice::reseed;
+use voice::reset;
 
 // The blank voice, all zero, where the making is refused.
 #[repr(C)]

@@ -10,8 +10,8 @@ use crate::sink::Sink;
 use crate::wav;
 use console::say;
 use console::words;
-use player::Voice;
 use sounder::Answer;
+use voice::Voice;
 
 // How many samples: whole ones, of up to 60 seconds at up to 192,000 a second, so that each number of a sample is an f32.
 // More, which no voice that was made can ask for, stands for none.

@@ -4,8 +4,8 @@ ghost use lib.ListN.{length};
 use crate::options::Options;
 use crate::sink::Sink;
 use crate::sink::send;
-use player::Voice;
 use sounder::player_door::sounder_play;
+use voice::Voice;
 
 // How far the playing has come: the voice, the bytes sent, the largest magnitude as a pattern, and the number of a refusal (0: none).
 pub struct Run {

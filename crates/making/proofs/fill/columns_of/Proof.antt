@@ -9,7 +9,7 @@ use mathlib.Core.List.{map}
 use Rattle.table.specs.Table.{PitchEntry}
 use Rattle.table.specs.View.{entryAt}
 use Rattle.float.specs.F32.{nearest}
-use Rattle.player.specs.Lists.{padded}
+use Rattle.voice.specs.Lists.{padded}
 use Rattle.making.specs.Making.{f32, gainOf, mainlobeKey, noiseGainKey}
 use Rattle.making.specs.Views.{noView}
 use Rattle.making.proofs.MakeLists.{pad-again-2}

@@ -6,7 +6,7 @@ use lib.ListN.{length, take}
 use lib.Seq.{take-all}
 use lib.Ieee.{Float, nan, ofBits, round}
 use Rattle.float.specs.F32.{nearest}
-use Rattle.player.specs.Lists.{padded}
+use Rattle.voice.specs.Lists.{padded}
 use Rattle.filters.specs.Biquad.{noiseBand}
 use Rattle.filters.specs.Band.{zeroCoeffs, bandCompensation}
 use Rattle.filters.specs.declared.band.Band.{Band}

@@ -1,5 +1,5 @@
 use Rattle.table.specs.Table.{PitchEntry}
-use Rattle.player.specs.Lists.{padded, upTo}
+use Rattle.voice.specs.Lists.{padded, upTo}
 use Rattle.making.specs.Columns.{columnsOf}
 use Rattle.making.specs.declared.live.Live.{Live}
 use Rattle.making.specs.declared.fill.Columns.{Columns}

@@ -1,6 +1,6 @@
 use mathlib.Core.Path.{_≡_, refl, sym, ap, _∙_}
 use borrow.Author.Tests.{not-true, not-false}
-use Rattle.player.specs.Voice.{pitchOk, stretchOk}
+use Rattle.voice.specs.Voice.{pitchOk, stretchOk}
 use Rattle.making.specs.Making.{valuesOk, presentFinite}
 use borrow.Author.Needs.{needs}
 use Rattle.making.proofs.values.values_ok.Statement.{statement}

@@ -6,7 +6,7 @@ use native.Mathlib.Omega.{arith}
 use borrow.Author.Needs.{needs}
 use Prim.Native.Nat.{_-_, _≤_, _<_}
 use lib.ListN.{length, getD, length-set}
-use Rattle.player.specs.Parts.{memoriesOf, memoryAt}
+use Rattle.voice.specs.Parts.{memoriesOf, memoryAt}
 use Rattle.player.specs.Columns.{Memories}
 use Rattle.player.proofs.bands.gather_memories.Statement.{statement}
 use Rattle.player.proofs.bands.gather_memories.Tie as tie

@@ -1,13 +1,13 @@
 -- `scatter_memories` meets its contract.
-use Rattle.player.proofs.Loops.{steps-again, steps-full}
+use Rattle.voice.proofs.Loops.{steps-again, steps-full}
 use Rattle.player.proofs.PartsLaws.{memories-written}
 use mathlib.Core.Path.{_≡_, refl, _∙_}
 use native.Mathlib.Omega.{arith}
 use borrow.Author.Needs.{needs}
 use Prim.Native.Nat.{_-_, _≤_, _<_}
 use lib.ListN.{length, getD, set, length-set}
-use Rattle.player.specs.Parts.{memoriesOf}
-use Rattle.player.specs.Lists.{steps}
+use Rattle.voice.specs.Parts.{memoriesOf}
+use Rattle.voice.specs.Lists.{steps}
 use Rattle.player.specs.Columns.{stateOfColumns}
 use Rattle.player.proofs.bands.scatter_memories.Statement.{statement}
 use Rattle.player.proofs.bands.scatter_memories.Tie as tie

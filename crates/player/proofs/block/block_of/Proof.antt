@@ -6,12 +6,12 @@ use mathlib.Core.Path.{_≡_, sym, _∙_}
 use native.Mathlib.Omega.{arith}
 use lib.ListN.{length, take, drop, length-take, length-drop}
 use lib.Seq.{length-take-le}
-use Rattle.player.specs.Lists.{joinTo}
-use Rattle.player.specs.Input.{frequencyAt, gains, gainsAt}
-use Rattle.player.specs.Parts.{voiceOf, stateOf}
+use Rattle.voice.specs.Lists.{joinTo}
+use Rattle.voice.specs.Input.{frequencyAt, gains, gainsAt}
+use Rattle.voice.specs.Parts.{voiceOf, stateOf}
 use Rattle.player.specs.Block.{channelOut, blockOut}
-use Rattle.player.specs.declared.voice.Voice.{Voice}
-use Rattle.player.proofs.Loops.{joinTo-again, joinTo-full, behind, behind-at, behind-sized, behind-first, behind-last, row-end, small-product}
+use Rattle.voice.specs.declared.voice.Voice.{Voice}
+use Rattle.voice.proofs.Loops.{joinTo-again, joinTo-full, behind, behind-at, behind-sized, behind-first, behind-last, row-end, small-product}
 use Rattle.player.proofs.SoundLaws.{length-channel}
 use borrow.Author.Needs.{needs}
 use Rattle.player.proofs.block.block_of.Statement.{statement}

@@ -1,5 +1,5 @@
 -- `copied` meets its contract.
-use Rattle.player.proofs.Loops.{upTo-again, upTo-full, upTo-same}
+use Rattle.voice.proofs.Loops.{upTo-again, upTo-full, upTo-same}
 use mathlib.Core.Path.{_≡_, refl, _∙_}
 use native.Mathlib.Omega.{arith}
 use borrow.Author.Needs.{needs}
@@ -7,7 +7,7 @@ use mathlib.Core.List.{_++_}
 use Prim.Native.Nat.{_-_, _≤_}
 use lib.ListN.{getD, drop}
 use lib.Ieee.{nan}
-use Rattle.player.specs.Lists.{upTo}
+use Rattle.voice.specs.Lists.{upTo}
 use Rattle.player.proofs.block.copied.Statement.{statement}
 use Rattle.player.proofs.block.copied.Tie as tie
 

@@ -5,9 +5,9 @@ use native.Mathlib.Omega.{arith}
 use lib.Dec.{lit≤}
 use lib.ListN.{getD}
 use lib.Ieee.{nan, round}
-use Rattle.player.specs.Voice.{pitchOk}
+use Rattle.voice.specs.Voice.{pitchOk}
 use Rattle.player.specs.Bracket.{bracketOf, neighbours}
-use Rattle.player.proofs.Loops.{every-at}
+use Rattle.voice.proofs.Loops.{every-at}
 use Rattle.player.proofs.RangeLaws.{pitch-within}
 use Rattle.player.proofs.BracketLaws.{neighbours-at, notAbove-le, above-it}
 use borrow.Author.Needs.{needs}

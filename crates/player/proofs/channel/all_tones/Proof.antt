@@ -1,8 +1,8 @@
 -- `all_tones` meets its contract.
 use mathlib.Core.Path.{_∙_}
 use borrow.Author.Tests.{eq-eqb, eqb-true}
-use Rattle.player.specs.Input.{frequencyAt, gains, gainsAt}
-use Rattle.player.specs.Parts.{toneVoice}
+use Rattle.voice.specs.Input.{frequencyAt, gains, gainsAt}
+use Rattle.player.specs.Passes.{toneVoice}
 use Rattle.player.proofs.ChannelLaws.{same-phases, no-tones}
 use borrow.Author.Needs.{needs}
 use Rattle.player.proofs.channel.all_tones.Statement.{statement}

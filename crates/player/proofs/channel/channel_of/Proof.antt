@@ -4,7 +4,7 @@ use mathlib.Core.Bool.{false}
 use native.Mathlib.Omega.{arith}
 use borrow.Author.Tests.{eq-eqb, ne-eqb}
 use lib.Dec.{eqb}
-use Rattle.player.specs.Input.{frequencyAt, gains, gainsAt}
+use Rattle.voice.specs.Input.{frequencyAt, gains, gainsAt}
 use Rattle.player.proofs.ChannelLaws.{tonal-keeps, noisal-keeps, sized, ends-still, ends-tones, ends-noisy}
 use borrow.Author.Needs.{needs}
 use Rattle.player.proofs.channel.channel_of.Statement.{statement}

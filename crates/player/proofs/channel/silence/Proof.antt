@@ -6,8 +6,8 @@ use native.Mathlib.Omega.{arith}
 use lib.ListN.{length, drop, length-set}
 use lib.Ieee.{ofBits, round}
 use Rattle.float.specs.F32.{nearest}
-use Rattle.player.specs.Lists.{upTo}
-use Rattle.player.proofs.Loops.{upTo-again, upTo-full}
+use Rattle.voice.specs.Lists.{upTo}
+use Rattle.voice.proofs.Loops.{upTo-again, upTo-full}
 use borrow.Author.Needs.{needs}
 use Rattle.player.proofs.channel.silence.Statement.{statement}
 use Rattle.player.proofs.channel.silence.Tie as tie

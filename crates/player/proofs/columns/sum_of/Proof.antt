@@ -5,8 +5,8 @@ use native.Mathlib.Omega.{arith}
 use lib.ListN.{getD}
 use lib.Ieee.{nan}
 use Rattle.float.specs.F32.{_⊕_}
-use Rattle.player.specs.Lists.{steps}
-use Rattle.player.proofs.Loops.{steps-again, steps-full}
+use Rattle.voice.specs.Lists.{steps}
+use Rattle.voice.proofs.Loops.{steps-again, steps-full}
 use borrow.Author.Needs.{needs}
 use Rattle.player.proofs.columns.sum_of.Statement.{statement}
 use Rattle.player.proofs.columns.sum_of.Tie as tie

@@ -1,7 +1,7 @@
 -- `clean` meets its contract.
 use mathlib.Core.Path.{sym, _∙_}
 use lib.Ieee.{ofBits, round}
-use Rattle.player.specs.Input.{cleaned}
+use Rattle.voice.specs.Input.{cleaned}
 use borrow.Author.Needs.{needs}
 use Rattle.player.proofs.input.clean.Statement.{statement}
 use Rattle.player.proofs.input.clean.Tie as tie

@@ -6,7 +6,7 @@ use lib.Dec.{T, eqb}
 use lib.ListN.{getD}
 use lib.Ieee.{Float, nan, ofBits, round}
 use borrow.Author.Tests.{eq-eqb}
-use Rattle.player.specs.Input.{gainsAt}
+use Rattle.voice.specs.Input.{gainsAt}
 use borrow.Author.Needs.{needs}
 use Rattle.player.proofs.input.gains_heard.Statement.{statement}
 use Rattle.player.proofs.input.gains_heard.Tie as tie

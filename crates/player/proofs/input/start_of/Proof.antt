@@ -3,8 +3,8 @@ use mathlib.Core.Path.{_≡_, sym, ap, _∙_}
 use Prim.Native.Nat.{ℕ, _*_, _%_, _≤_, _<_}
 use native.Mathlib.Nat.{mod-eq-of-lt}
 use native.Mathlib.Omega.{arith}
-use Rattle.player.specs.Input.{startOf}
-use Rattle.player.proofs.Loops.{input-end}
+use Rattle.voice.specs.Input.{startOf}
+use Rattle.voice.proofs.Loops.{input-end}
 use borrow.Author.Needs.{needs}
 use Rattle.player.proofs.input.start_of.Statement.{statement}
 use Rattle.player.proofs.input.start_of.Tie as tie

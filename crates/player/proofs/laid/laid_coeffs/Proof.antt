@@ -1,5 +1,5 @@
 -- `laid_coeffs` meets its contract.
-use Rattle.player.specs.Sound.{noCoeffs}
+use Rattle.voice.specs.Voice.{noCoeffs}
 use lib.ListN.{length, getD, length-set}
 use mathlib.Core.Path.{_≡_, refl}
 use native.Mathlib.Omega.{arith}

@@ -1,5 +1,5 @@
 -- `laid_memories` meets its contract.
-use Rattle.player.specs.Sound.{noState}
+use Rattle.voice.specs.Voice.{noState}
 use lib.ListN.{length, getD, length-set}
 use mathlib.Core.Path.{_≡_, refl}
 use native.Mathlib.Omega.{arith}

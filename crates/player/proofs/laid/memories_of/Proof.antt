@@ -1,13 +1,13 @@
 -- `memories_of` meets its contract.
-use Rattle.player.proofs.Loops.{upTo-again, upTo-full}
+use Rattle.voice.proofs.Loops.{upTo-again, upTo-full}
 use mathlib.Core.Path.{_≡_, refl}
 use native.Mathlib.Omega.{arith}
 use borrow.Author.Needs.{needs}
 use mathlib.Core.List.{_++_}
 use Prim.Native.Nat.{_-_, _≤_}
 use lib.ListN.{drop}
-use Rattle.player.specs.Lists.{upTo}
-use Rattle.player.specs.Parts.{memoryAt, memoriesOf}
+use Rattle.voice.specs.Lists.{upTo}
+use Rattle.voice.specs.Parts.{memoryAt, memoriesOf}
 use Rattle.player.proofs.laid.memories_of.Statement.{statement}
 use Rattle.player.proofs.laid.memories_of.Tie as tie
 

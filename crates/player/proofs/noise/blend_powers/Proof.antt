@@ -4,9 +4,9 @@ use Prim.Native.Nat.{_-_, _+_, _*_, _≤_}
 use native.Mathlib.Omega.{arith}
 use lib.ListN.{getD}
 use lib.Ieee.{nan, ofBits, round}
-use Rattle.player.specs.Lists.{Filled, steps}
+use Rattle.voice.specs.Lists.{Filled, steps}
 use Rattle.player.specs.Sound.{blendPower}
-use Rattle.player.proofs.Loops.{steps-again}
+use Rattle.voice.proofs.Loops.{steps-again}
 use Rattle.player.proofs.ColumnLaws.{filled-as}
 use borrow.Author.Needs.{needs}
 use Rattle.player.proofs.noise.blend_powers.Statement.{statement}

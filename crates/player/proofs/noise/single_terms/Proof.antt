@@ -3,7 +3,7 @@ use mathlib.Core.Path.{_≡_, refl, ap, _∙_}
 use Prim.Native.Nat.{_-_, _≤_}
 use native.Mathlib.Omega.{arith}
 use lib.ListN.{length, getD, set, length-set}
-use Rattle.player.specs.Lists.{Filled}
+use Rattle.voice.specs.Lists.{Filled}
 use mathlib.Core.Logic.{⊎-elim}
 use lib.Seq.{set-set, lt-length-set}
 use lib.Ieee.{Float, nan, ofBits, neg, round}

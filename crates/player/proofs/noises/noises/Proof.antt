@@ -7,10 +7,10 @@ use native.Mathlib.Omega.{arith}
 use lib.ListN.{length, drop, getD, length-set}
 use lib.Ieee.{Float, nan}
 use Rattle.float.specs.Range.{Within}
-use Rattle.player.specs.Input.{frequencyAt, gains, gainsAt, cleaned}
-use Rattle.player.specs.Parts.{noiseVoice, memoriesOf}
-use Rattle.player.specs.Passes.{rngAt, memoriesBefore, noisesOut}
-use Rattle.player.specs.declared.voice.Voice.{Voice}
+use Rattle.voice.specs.Input.{frequencyAt, gains, gainsAt, cleaned}
+use Rattle.player.specs.Passes.{noiseVoice, rngAt, memoriesBefore, noisesOut}
+use Rattle.voice.specs.Parts.{memoriesOf}
+use Rattle.voice.specs.declared.voice.Voice.{Voice}
 use Rattle.player.proofs.RangeLaws.{hold}
 use Rattle.player.proofs.SoundLaws.{FixedOf, Facts, facts, cleaned-within, frequency-passes, inverse-small}
 use borrow.Author.Needs.{needs}

@@ -3,9 +3,9 @@ use mathlib.Core.Path.{_≡_, refl}
 use Prim.Native.Nat.{_-_, _≤_}
 use native.Mathlib.Omega.{arith}
 use lib.Ieee.{ofBits, round}
-use Rattle.player.specs.Lists.{steps}
+use Rattle.voice.specs.Lists.{steps}
 use Rattle.player.specs.Sound.{blendCoeff, partialRow}
-use Rattle.player.proofs.Loops.{steps-again, steps-full}
+use Rattle.voice.proofs.Loops.{steps-again, steps-full}
 use borrow.Author.Needs.{needs}
 use Rattle.player.proofs.partials_blend.blend_coeff.Statement.{statement}
 use Rattle.player.proofs.partials_blend.blend_coeff.Tie as tie

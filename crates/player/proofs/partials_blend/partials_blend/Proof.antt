@@ -1,6 +1,6 @@
 -- `partials_blend` meets its contract.
 use mathlib.Core.Bool.{true}
-use Rattle.player.specs.Voice.{phaseOk}
+use Rattle.voice.specs.Voice.{phaseOk}
 use Rattle.player.specs.Phase.{Step, advanceOf, stepOf, partialFreq}
 use mathlib.Core.Path.{_≡_, refl}
 use Prim.Native.Nat.{_-_, _+_, _≤_}
@@ -8,10 +8,10 @@ use native.Mathlib.Omega.{arith}
 use lib.ListN.{getD}
 use lib.Ieee.{nan, ofBits, round}
 use Rattle.float.specs.F32.{nearest}
-use Rattle.player.specs.Lists.{steps, mapTo}
+use Rattle.voice.specs.Lists.{steps, mapTo}
 use Rattle.player.specs.Fade.{nyquistFade}
 use Rattle.player.specs.Sound.{addBlend, blendCoeff, partialRow}
-use Rattle.player.proofs.Loops.{mapTo-again, mapTo-read, mapTo-full, steps-again, steps-full}
+use Rattle.voice.proofs.Loops.{mapTo-again, mapTo-read, mapTo-full, steps-again, steps-full}
 use Rattle.player.proofs.RangeLaws.{turn-phase, step-small, advance-ok}
 use borrow.Author.Needs.{needs}
 use Rattle.player.proofs.partials_blend.partials_blend.Statement.{statement}

@@ -7,9 +7,9 @@ use lib.ListN.{set}
 use lib.Ieee.{le}
 use lib.Ieee.Fits.{add-fits}
 use Rattle.float.proofs.Fraction.{fraction-below, fraction-over, not-lt, one}
-use Rattle.player.specs.Voice.{phaseOk}
-use Rattle.player.proofs.RangeLaws.{hold, sum-ok, sum-under-two}
-use Rattle.player.proofs.Loops.{every-at}
+use Rattle.voice.specs.Voice.{phaseOk}
+use Rattle.player.proofs.RangeLaws.{hold, sum-ok, sum-under-two, turn-phase}
+use Rattle.voice.proofs.Loops.{every-at, steps-again, steps-full, mapTo-again, mapTo-read, mapTo-full}
 -- `move_small` meets its contract.
 use mathlib.Core.Path.{_≡_, refl, sym, ap, _∙_}
 use Prim.Native.Nat.{ℕ, _+_, _-_, _*_, _≤_, _<_}
@@ -17,11 +17,9 @@ use native.Mathlib.Omega.{arith}
 use lib.ListN.{length, getD, length-set}
 use lib.Ieee.{Float, nan, binary32, ofBits}
 use Rattle.float.specs.F32.{_⊕_, _⊗_, nearest}
-use Rattle.player.specs.Lists.{Filled, FilledRows, steps, mapTo, every}
-use Rattle.player.proofs.Loops.{steps-again, steps-full, mapTo-again, mapTo-read, mapTo-full}
+use Rattle.voice.specs.Lists.{Filled, FilledRows, steps, mapTo, every}
 use Rattle.player.proofs.ColumnLaws.{filled-none, filled-again, filled-full}
 use Rattle.player.specs.Phase.{advanceOf}
-use Rattle.player.proofs.RangeLaws.{turn-phase}
 use borrow.Author.Needs.{needs}
 use Rattle.player.proofs.phases.move_small.Statement.{statement}
 use Rattle.player.proofs.phases.move_small.Tie as tie

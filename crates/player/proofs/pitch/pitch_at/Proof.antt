@@ -4,9 +4,9 @@ use mathlib.Core.Bool.{true}
 use Prim.Native.Nat.{ℕ, _<_}
 use lib.ListN.{getD}
 use lib.Ieee.{nan}
-use Rattle.player.specs.Voice.{stretchOk}
+use Rattle.voice.specs.Voice.{stretchOk}
 use Rattle.player.specs.Bracket.{SidesIn}
-use Rattle.player.proofs.Loops.{every-at}
+use Rattle.voice.proofs.Loops.{every-at}
 use Rattle.player.proofs.SoundLaws.{sides-wide}
 use Rattle.player.proofs.pitch.pitch_at.Statement.{statement}
 use Rattle.player.proofs.pitch.pitch_at.Tie as tie

@@ -2,12 +2,13 @@
 use Rattle.player.proofs.PartsLaws.{length-memories, played-as}
 use mathlib.Core.Path.{_≡_, sym, ap, _∙_}
 use lib.ListN.{length}
-use Rattle.player.specs.Input.{Gains, gains}
-use Rattle.player.specs.Parts.{voiceOf, stateOf, laidOut}
-use Rattle.player.specs.Play.{Outcome, playQuestion, callQuestion, played, playedOut}
+use Rattle.voice.specs.Input.{Gains, gains}
+use Rattle.voice.specs.Parts.{voiceOf, stateOf, laidOut}
+use Rattle.voice.specs.Question.{Outcome, playQuestion, callQuestion}
+use Rattle.player.specs.Play.{played, playedOut}
 use Rattle.player.specs.declared.playing.Lent.{Lent}
-use Rattle.player.specs.declared.voice.Voice.{Voice}
-use Rattle.player.proofs.QuestionLaws.{play-number}
+use Rattle.voice.specs.declared.voice.Voice.{Voice}
+use Rattle.voice.proofs.QuestionLaws.{play-number}
 use borrow.Author.Needs.{needs}
 use Rattle.player.proofs.playing.play.Statement.{statement}
 use Rattle.player.proofs.playing.play.Tie as tie

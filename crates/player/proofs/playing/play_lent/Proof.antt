@@ -1,13 +1,14 @@
 -- `play_lent` meets its contract.
 use mathlib.Core.Path.{_≡_, sym, ap, _∙_}
 use lib.ListN.{length}
-use Rattle.player.specs.Input.{Gains, gains}
-use Rattle.player.specs.Parts.{voiceOf, stateOf, laidOut}
-use Rattle.player.specs.Voice.{keepsRules, countsOk, entriesOk, liveOk, withState}
+use Rattle.voice.specs.Input.{Gains, gains}
+use Rattle.voice.specs.Parts.{voiceOf, stateOf, laidOut}
+use Rattle.voice.specs.Voice.{keepsRules, countsOk, entriesOk, liveOk, withState}
 use Rattle.player.specs.Block.{blockEnd}
-use Rattle.player.specs.Play.{Outcome, playQuestion, played, playedOut}
-use Rattle.player.specs.declared.voice.Voice.{Voice}
-use Rattle.player.proofs.QuestionLaws.{play-accepted, question-is, refused, refused-out, block-is, inputs-fit}
+use Rattle.voice.specs.Question.{Outcome, playQuestion}
+use Rattle.player.specs.Play.{played, playedOut}
+use Rattle.voice.specs.declared.voice.Voice.{Voice}
+use Rattle.voice.proofs.QuestionLaws.{play-accepted, question-is, refused, refused-out, block-is, inputs-fit}
 use Rattle.player.proofs.PartsLaws.{laid-back}
 use borrow.Author.Needs.{needs}
 use Rattle.player.proofs.playing.play_lent.Statement.{statement}

@@ -5,10 +5,9 @@ use native.Mathlib.Omega.{arith}
 use lib.ListN.{length, getD, length-set}
 use lib.Ieee.{Float, nan, binary32, ofBits}
 use Rattle.float.specs.F32.{_⊕_, _⊗_, nearest}
-use Rattle.player.specs.Lists.{Filled, FilledRows, steps, mapTo, every}
-use Rattle.player.proofs.Loops.{steps-again, steps-full, mapTo-again, mapTo-read, mapTo-full}
-use Rattle.player.proofs.ColumnLaws.{filled-none, filled-again, filled-full}
-use Rattle.player.proofs.ColumnLaws.{mapped-filled}
+use Rattle.voice.specs.Lists.{Filled, FilledRows, steps, mapTo, every}
+use Rattle.voice.proofs.Loops.{steps-again, steps-full, mapTo-again, mapTo-read, mapTo-full}
+use Rattle.player.proofs.ColumnLaws.{filled-none, filled-again, filled-full, mapped-filled}
 use borrow.Author.Needs.{needs}
 use Rattle.player.proofs.tone.add_row.Statement.{statement}
 use Rattle.player.proofs.tone.add_row.Tie as tie

@@ -7,8 +7,7 @@ use lib.Ieee.Fits.{round-fits}
 use borrow.Author.Tests.{eq-eqb, ne-eqb}
 use Rattle.float.specs.F32.{_⊕_, _⊗_, nearest}
 use Rattle.player.specs.Columns.{added}
-use Rattle.player.proofs.ColumnLaws.{sum-is}
-use Rattle.player.proofs.ColumnLaws.{add-heard}
+use Rattle.player.proofs.ColumnLaws.{sum-is, add-heard}
 use borrow.Author.Needs.{needs}
 use Rattle.player.proofs.tone.tone_sum.Statement.{statement}
 use Rattle.player.proofs.tone.tone_sum.Tie as tie

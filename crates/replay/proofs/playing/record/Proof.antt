@@ -17,11 +17,11 @@ use Rattle.replay.proofs.playing.first.Reads as first-reads
 use Rattle.replay.proofs.playing.floats_at.Reads as floats-at-reads
 use Rattle.replay.proofs.playing.made.Reads as made-reads
 use Rattle.replay.proofs.playing.rung.Reads as rung-reads
-use Rattle.replay.proofs.voice.after_changes.Reads as after-changes-reads
-use Rattle.replay.proofs.voice.blank.Reads as blank-reads
-use Rattle.replay.proofs.voice.changed.Reads as changed-reads
-use Rattle.replay.proofs.voice.same_voice.Reads as same-voice-reads
-use Rattle.replay.proofs.voice.without_unread.Reads as without-unread-reads
+use Rattle.replay.proofs.places.after_changes.Reads as after-changes-reads
+use Rattle.replay.proofs.places.blank.Reads as blank-reads
+use Rattle.replay.proofs.places.changed.Reads as changed-reads
+use Rattle.replay.proofs.places.same_voice.Reads as same-voice-reads
+use Rattle.replay.proofs.places.without_unread.Reads as without-unread-reads
 use Rattle.sounder.proofs.player_door.sounder_make.Reads as sounder-make-reads
 
 -- src/playing.rt:302:9

@@ -5,7 +5,7 @@ use Rattle.sounder.proofs.player_door.sounder_reseed.Statement.{stateme
 use Rattle.sounder.proofs.player_door.sounder_reseed.Tie as tie
 use Rattle.sounder.proofs.player_door.sounder_reseed.Reads as reads
 use Rattle.sounder.proofs.player_door.sounder_reseed.Lts as lts
-use Rattle.player.proofs.reseed.Reads as reseed-reads
+use Rattle.voice.proofs.reseed.Reads as reseed-reads
 use Rattle.sounder.proofs.player_door.play_number.Reads as play-number-reads
 
 -- src/player_door.rt:190:9

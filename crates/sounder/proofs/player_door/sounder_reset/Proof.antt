@@ -5,7 +5,7 @@ use Rattle.sounder.proofs.player_door.sounder_reset.Statement.{statemen
 use Rattle.sounder.proofs.player_door.sounder_reset.Tie as tie
 use Rattle.sounder.proofs.player_door.sounder_reset.Reads as reads
 use Rattle.sounder.proofs.player_door.sounder_reset.Lts as lts
-use Rattle.player.proofs.reset.Reads as reset-reads
+use Rattle.voice.proofs.reset.Reads as reset-reads
 use Rattle.sounder.proofs.player_door.play_number.Reads as play-number-reads
 
 -- src/player_door.rt:176:9

@@ -1,0 +1,76 @@
+-- `replay::places::same_live` is safe and ends. Assumes nothing.
+use borrow.Author.Needs.{needs}
+use Prim.Native.Nat.{_≤_, _-_}
+use Rattle.replay.proofs.places.same_live.Statement.{statement}
+use Rattle.replay.proofs.places.same_live.Tie as tie
+use Rattle.replay.proofs.places.same_live.Reads as reads
+use Rattle.replay.proofs.places.same_live.Lts as lts
+use Rattle.replay.proofs.tally.same_count.Reads as same-count-reads
+
+abbrev Inv-loop : tie.InvT-loop
+Inv-loop ours theirs t₀ i₀ t8 t i = i ≤ 16
+
+abbrev μ-loop : tie.MeasureT-loop
+μ-loop ours theirs t₀ i₀ t8 t i = 16 - i
+
+-- src/places.rt:268:5
+loop-holds : tie.Need-loop-holds Inv-loop μ-loop
+loop-holds c = search needs
+
+-- src/places.rt:269:27
+slice-aggregate-same-count : tie.Need-slice-aggregate-same-count Inv-loop μ-loop
+slice-aggregate-same-count c = search needs
+
+-- src/places.rt:269:39
+mul-same-count : tie.Need-mul-same-count Inv-loop μ-loop
+mul-same-count c = search needs
+
+-- src/places.rt:269:39
+array-read-same-count : tie.Need-array-read-same-count Inv-loop μ-loop
+array-read-same-count c = search needs
+
+-- src/places.rt:269:48
+mul-same-count-2 : tie.Need-mul-same-count-2 Inv-loop μ-loop
+mul-same-count-2 c = search needs
+
+-- src/places.rt:269:48
+array-read-same-count-2 : tie.Need-array-read-same-count-2 Inv-loop μ-loop
+array-read-same-count-2 c = search needs
+
+-- src/places.rt:269:9
+same-count-requires : tie.Need-same-count-requires Inv-loop μ-loop
+same-count-requires c κs = search needs
+
+-- src/places.rt:270:9
+add-i : tie.Need-add-i Inv-loop μ-loop
+add-i c = search needs
+
+-- src/places.rt:268:5
+loop-less : tie.Need-loop-less Inv-loop μ-loop
+loop-less c = search needs
+
+-- src/places.rt:268:5
+loop-again : tie.Need-loop-again Inv-loop μ-loop
+loop-again c = search needs
+
+-- src/places.rt:265:1
+returns : tie.Need-returns Inv-loop μ-loop
+returns c = search needs
+
+pub same-live-spec : {M : Type 1} → statement M
+same-live-spec =
+    tie.close
+    (tie.spec
+    Inv-loop
+    μ-loop
+    loop-holds
+    slice-aggregate-same-count
+    mul-same-count
+    array-read-same-count
+    mul-same-count-2
+    array-read-same-count-2
+    same-count-requires
+    add-i
+    loop-less
+    loop-again
+    returns)

@@ -1,0 +1,31 @@
+-- `reseed` meets its contract.
+use mathlib.Core.Path.{sym, _∙_}
+use borrow.Author.Tests.{not-true, not-false}
+use lib.Ieee.{ofBits, round}
+use Rattle.voice.specs.Question.{ask}
+use Rattle.voice.specs.Restart.{reseedOf}
+use borrow.Author.Needs.{needs}
+use Rattle.voice.proofs.restart.reseed.Statement.{statement}
+use Rattle.voice.proofs.restart.reseed.Tie as tie
+
+keeps-rules-requires : tie.Need-keeps-rules-requires
+keeps-rules-requires c κs = search needs
+
+returns : tie.Need-returns
+unfolding reseedOf ask
+returns c =
+    let b1 = c .before in
+    rw (sym (b1 .keeps-rules .ensures) ∙ not-true _ (c .if1 .taken))
+
+new-requires : tie.Need-new-requires
+new-requires c κs = search needs
+
+returns-2 : tie.Need-returns-2
+unfolding reseedOf ask ofBits round
+returns-2 c =
+    let b3 = c .before .before .before in
+    let b4 = b3 .before in
+    rw (sym (b4 .keeps-rules .ensures) ∙ not-false _ (b3 .if1 .left), c .new .ensures)
+
+pub reseed-spec : {M : Type 1} → statement M
+reseed-spec = tie.close (tie.spec keeps-rules-requires returns new-requires returns-2)

@@ -1,0 +1,184 @@
+// The voice rules, which question 13 asks.
+ghost use mathlib.Core.Path.{_≡_};
+ghost use mathlib.Core.Bool.{_&&_};
+ghost use Prim.Native.Nat.{_≤_};
+ghost use lib.ListN.{getD};
+ghost use lib.Ieee.{nan};
+ghost use lib.Dec.{leb, ltb};
+ghost use Rattle.voice.specs.Lists.{every};
+ghost use Rattle.voice.specs.Parts.{settingOf, rulesOf};
+ghost use Rattle.voice.specs.Voice.{phaseOk, pitchOk, stretchOk, rateOk, pitchesAscend, bandsAscend, phasesOk, keepsRules};
+use crate::voice::Setting;
+use crate::voice::Voice;
+
+pub fn both(a: bool, b: bool) -> bool
+    ensures { λ r. ⌜ r ≡ a && b ⌝ }
+{
+    if a { b } else { false }
+}
+
+fn phase_ok(p: f32) -> bool
+    ensures { λ r. ⌜ r ≡ phaseOk p ⌝ }
+{
+    both(0.0 <= p, p < 1.0)
+}
+
+fn pitch_ok(f: f32) -> bool
+    ensures { λ r. ⌜ r ≡ pitchOk f ⌝ }
+{
+    both(0.0 < f, f <= 20000.0)
+}
+
+fn stretch_ok(s: f32) -> bool
+    ensures { λ r. ⌜ r ≡ stretchOk s ⌝ }
+{
+    both(0.0 <= s, s <= 4.0)
+}
+
+fn rate_ok(rate: f32) -> bool
+    ensures { λ r. ⌜ r ≡ rateOk rate ⌝ }
+{
+    both(8000.0 <= rate, rate <= 192000.0)
+}
+
+fn phases_ok(phases: &[f32; 32], m: usize) -> bool
+    requires { ⌜ m ≤ 32 ⌝ }
+    ensures { λ r. ⌜ r ≡ phasesOk (now (phases .entry)) m ⌝ }
+{
+    let mut ok = true;
+    let mut i = 0;
+    while i < m {
+        ok = both(ok, phase_ok(phases[i]));
+        i += 1;
+    }
+    ok
+}
+
+fn pitches_ok(f0_hz: &[f32; 16], count: usize) -> bool
+    requires { ⌜ count ≤ 16 ⌝ }
+    ensures { λ r. ⌜ r ≡ every (λ i. pitchOk (getD (now («f0_hz» .entry)) i nan)) count ⌝ }
+{
+    let mut ok = true;
+    let mut i = 0;
+    while i < count {
+        ok = both(ok, pitch_ok(f0_hz[i]));
+        i += 1;
+    }
+    ok
+}
+
+fn stretches_ok(stretch: &[f32; 16], count: usize) -> bool
+    requires { ⌜ count ≤ 16 ⌝ }
+    ensures { λ r. ⌜ r ≡ every (λ i. stretchOk (getD (now (stretch .entry)) i nan)) count ⌝ }
+{
+    let mut ok = true;
+    let mut i = 0;
+    while i < count {
+        ok = both(ok, stretch_ok(stretch[i]));
+        i += 1;
+    }
+    ok
+}
+
+fn pitches_ascend(f0_hz: &[f32; 16], count: usize) -> bool
+    requires { ⌜ count ≤ 16 ⌝ }
+    ensures { λ r. ⌜ r ≡ pitchesAscend (now («f0_hz» .entry)) count ⌝ }
+{
+    let mut ok = true;
+    let mut i = 0;
+    while i + 1 < count {
+        ok = both(ok, f0_hz[i] <= f0_hz[i + 1]);
+        i += 1;
+    }
+    ok
+}
+
+fn live_below(live: &[usize; 16], n: usize, j: usize) -> bool
+    requires { ⌜ n ≤ 16 ⌝ }
+    ensures { λ r. ⌜ r ≡ every (λ i. ltb (getD (now (live .entry)) i 0) j) n ⌝ }
+{
+    let mut ok = true;
+    let mut i = 0;
+    while i < n {
+        ok = both(ok, live[i] < j);
+        i += 1;
+    }
+    ok
+}
+
+fn bands_ascend(live: &[usize; 16], n: usize) -> bool
+    requires { ⌜ n ≤ 16 ⌝ }
+    ensures { λ r. ⌜ r ≡ bandsAscend (now (live .entry)) n ⌝ }
+{
+    let mut ok = true;
+    let mut i = 0;
+    while i + 1 < n {
+        ok = both(ok, live[i] < live[i + 1]);
+        i += 1;
+    }
+    ok
+}
+
+fn counts_ok(count: usize, m: usize, j: usize, k: usize, live_count: usize) -> bool
+    ensures { λ r. ⌜ r ≡ leb count 16 && (leb m 32 && (leb j 16 && (leb k 4 && leb «live_count» 16))) ⌝ }
+{
+    both(
+        count <= 16,
+        both(m <= 32, both(j <= 16, both(k <= 4, live_count <= 16))),
+    )
+}
+
+// Question 13, of a voice in parts.
+pub fn rules_of<'a>(
+    set: Setting,
+    live: &'a [usize; 16],
+    f0_hz: &'a [f32; 16],
+    stretch: &'a [f32; 16],
+    phases: &'a [f32; 32],
+) -> bool
+    ensures { λ r. ⌜ r ≡ rulesOf set (now (live .entry)) (now («f0_hz» .entry)) (now (stretch .entry)) (now (phases .entry)) ⌝ }
+{
+    if !counts_ok(set.count, set.m, set.j, set.k, set.live_count) {
+        return false;
+    }
+    let pitches = pitches_ok(f0_hz, set.count);
+    let ascend = pitches_ascend(f0_hz, set.count);
+    let stretches = stretches_ok(stretch, set.count);
+    let rate = rate_ok(set.sample_rate);
+    let below = live_below(live, set.live_count, set.j);
+    let order = bands_ascend(live, set.live_count);
+    let moving = phases_ok(phases, set.m);
+    let entries = both(pitches, both(ascend, stretches));
+    both(entries, both(rate, both(both(below, order), moving)))
+}
+
+// The numbers of a voice.
+pub fn setting_of(voice: Voice) -> Setting
+    ensures { λ r. ⌜ r ≡ settingOf voice ⌝ }
+{
+    Setting {
+        blend: voice.blend,
+        channel: voice.channel,
+        count: voice.count,
+        k: voice.k,
+        m: voice.m,
+        j: voice.j,
+        live_count: voice.live_count,
+        sample_rate: voice.sample_rate,
+    }
+}
+
+// Question 13.
+pub fn keeps_rules(voice: Voice) -> bool
+    ensures { λ r. ⌜ r ≡ keepsRules voice ⌝ }
+{
+    let set = setting_of(voice);
+    let state = voice.state;
+    rules_of(
+        set,
+        &voice.live,
+        &voice.f0_hz,
+        &voice.stretch,
+        &state.phases,
+    )
+}
