@@ -15,6 +15,7 @@ use Rattle.voice.specs.declared.voice.Voice.{Voice}
 abbrev pub lentOf : Outcome → Lent
 lentOf o = record { number = o .number; rng = o .voice .state .rng }
 
+-- the number of the first question answered no, or 0, and the voice: at the end of channel 0 where the play is accepted, else as given
 unfoldable pub played : Voice → ℕ → Input → List Float → Gains → ℕ → ℕ → Outcome
 played v n freq fs g channels len =
     let q = playQuestion v n freq fs g channels len in

@@ -34,21 +34,25 @@ pitchesAscend l n = every (λ i. le (getD l i nan) (getD l (i + 1) nan)) (n - 1)
 abbrev pub bandsAscend : List ℕ → ℕ → Bool
 bandsAscend l n = every (λ i. ltb (getD l i 0) (getD l (i + 1) 0)) (n - 1)
 
--- at most 16 entries, 32 phases, 16 bands, 4 blend channels
+-- at most 16 entries, 32 phases, 16 bands, 4 blend channels (and 16 live bands, since each is below j and none comes twice)
 unfoldable pub countsOk : Voice → Bool
 countsOk v = leb (v .count) 16 && (leb (v .m) 32 && (leb (v .j) 16 && (leb (v .k) 4 && leb (v .«live_count») 16)))
 
+-- pitches finite, above 0, at most 20,000, ascending with equal ones allowed; stretches 0 to 4
 unfoldable pub entriesOk : Voice → Bool
 entriesOk v =
     every (λ i. pitchOk (getD (v .«f0_hz») i nan)) (v .count)
     && (pitchesAscend (v .«f0_hz») (v .count) && every (λ i. stretchOk (getD (v .stretch) i nan)) (v .count))
 
+-- live bands ascending, each below j
 unfoldable pub liveOk : Voice → Bool
 liveOk v = every (λ i. ltb (getD (v .live) i 0) (v .j)) (v .«live_count») && bandsAscend (v .live) (v .«live_count»)
 
+-- the first m phases at least 0 and below 1
 unfoldable pub phasesOk : List Float → ℕ → Bool
 phasesOk ps m = every (λ i. phaseOk (getD ps i nan)) m
 
+-- question 13: does the voice keep the voice rules? (The sample rate is 8,000 to 192,000 by `rateOk`.)
 unfoldable pub keepsRules : Voice → Bool
 keepsRules v = countsOk v && (entriesOk v && (rateOk (v .«sample_rate») && (liveOk v && phasesOk (v .state .phases) (v .m))))
 
