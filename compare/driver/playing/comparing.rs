@@ -94,7 +94,7 @@ pub fn play_by_value(v: &Voice, p: &Play, out: &mut [f32]) -> ffi::PlayedAnswer 
     ffi::play(v, p.samples, lent(&p.freq), std::array::from_fn(|g| lent(&p.gains[g])), p.channels, out)
 }
 
-// A play both ways: they must give the same voice, samples and number, bit for bit.
+// A play both ways: they must give the same number, the same samples (NaN matching NaN) and the same voice byte for byte.
 pub fn our_play(v: &Voice, p: &Play, out: &mut [f32]) -> Result<ffi::PlayedAnswer, String> {
     let (mut own, mut heard) = (*v, out.to_vec());
     let number = play_in(&mut own, p, &mut heard);
