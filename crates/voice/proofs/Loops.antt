@@ -9,10 +9,11 @@ use native.Mathlib.Nat.{add-zero, add-suc, suc-add, zero-add, suc-mul, one-mul, 
 use native.Mathlib.Omega.{arith}
 use lib.Ieee.{Float, nan}
 use lib.ListN.{length, take, drop, getD, set, length-append, drop-of-length-le, List·getD-append, take-append-drop}
-use lib.Seq.{drop-cons, set-at, take-at, drop-at, drop-drop, getD-at, ext-getD, drop-append-le}
+use lib.Seq.{split-at, length-take-le, drop-cons, set-at, take-at, drop-at, drop-drop, getD-at, ext-getD, drop-append-le}
 use Rattle.voice.specs.Lists.{mapTo, upTo, steps, joinTo, every}
-use Rattle.voice.specs.Input.{InputFits, inputAt, startOf}
-use Rattle.voice.specs.declared.input.Input.{Input}
+use Rattle.voice.specs.Input.{inputOk}
+use borrow.Author.Tests.{eqb-true}
+use lib.Dec.{leb, eqb}
 
 module _ {A : Type 0} (f : ℕ → A → A) (d : A) where
   pub length-mapTo : (k n : ℕ) (l : List A) → length (mapTo f k n l) ≡ length l
@@ -100,29 +101,21 @@ row-end c k n h =
     let m : suc c * n ≤ k * n = mul-le-mul-right n h in
     omega arith
 
--- what a connected input of k channels has at sample i of a block of n
-pub input-index : (inp : Input) (k n len ch i : ℕ) → inp ≡ Input.Channels k → InputFits inp n len → i < n → (0 < k) × ((ch % k) * n + i < len)
-input-index inp k n len ch i e h l =
-    let g : InputFits (Input.Channels k) n len = rw e at h in
-    (omega arith, rw (← g .2) (row-below (ch % k) k n i (mod-lt ch (omega arith)) l))
+-- the part of channel ch of a connected input of k channels ends inside its slice
+pub input-end : (k n len ch : ℕ) → inputOk k n len ≡ true → (eqb k 0 ≡ false) → (0 < k) × ((ch % k) * n + n ≤ len)
+input-end k n len ch h z =
+    let g : leb k 8 && eqb (k * n) len ≡ true = rw z at h in
+    let e : k * n ≡ len = eqb-true _ _ (both-true (leb k 8) (eqb (k * n) len) g .1) in
+    let p : 0 < k = nonzero k z in
+    (p, rw (← e) (row-end (ch % k) k n (mod-lt ch p)))
+  where
+    nonzero : (k : ℕ) → eqb k 0 ≡ false → 0 < k
+    nonzero zero h = let q : _≡_ {A = ℕ} 0 1 = cc in absurd (omega arith)
+    nonzero (suc k) h = omega arith
 
--- the part of channel ch ends inside
-pub input-end : (inp : Input) (k n len ch : ℕ) → inp ≡ Input.Channels k → InputFits inp n len → (0 < k) × ((ch % k) * n ≤ len)
-input-end inp k n len ch e h =
-    let g : InputFits (Input.Channels k) n len = rw e at h in
-    let m : (ch % k) * n + n ≤ k * n = row-end (ch % k) k n (mod-lt ch (omega arith)) in
-    (omega arith, rw (← g .2) (omega arith))
-
--- where the part of channel ch starts, and what is read at sample i of it
-pub input-place : (inp : Input) (k n len ch at i : ℕ) → inp ≡ Input.Channels k → InputFits inp n len → at ≡ startOf inp n ch → i < n → at + i < len
-unfolding startOf
-input-place inp k n len ch at i e h q l =
-    let p : startOf inp n ch ≡ (ch % k) * n = rw e in
-    rw (q, p) (input-index inp k n len ch i e h l .1)
-
-pub input-read : (inp : Input) (k n ch at i : ℕ) (s : List Float) (other : Float) → inp ≡ Input.Channels k → at ≡ startOf inp n ch → getD s (at + i) nan ≡ inputAt inp s n ch other i
-unfolding startOf inputAt
-input-read inp k n ch at i s other e q = rw (q, e)
+-- what stands in a list does not ask what would stand past its end
+pub read-any : {A : Type 0} (l : List A) (i : ℕ) (d e : A) → i < length l → getD l i d ≡ getD l i e
+read-any {A = A} l i d e h = sym (ap (λ (z : List A). getD z i e) (split-at l i d h) ∙ getD-at (take i l) (getD l i d) _ e i (length-take-le i l (omega arith)))
 
 pub small-product : (k n : ℕ) → k ≤ 8 → n ≤ 128 → k * n ≤ 1024
 small-product k n h l =

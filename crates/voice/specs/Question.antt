@@ -1,13 +1,9 @@
 -- Questions 13 to 16, which a call on a voice is asked in their order, and what a call answers.
 use Prim.Native.Nat.{ℕ, zero, suc, _*_}
-use mathlib.Core.List.{List}
 use mathlib.Core.Bool.{Bool, true, false, _&&_}
-use lib.ListN.{length}
 use lib.Dec.{leb, eqb}
-use lib.Ieee.{Float}
-use Rattle.voice.specs.Input.{Gains, inputOk, frequenciesOk}
+use Rattle.voice.specs.Input.{Call, inputsOk, frequenciesOk}
 use Rattle.voice.specs.Voice.{keepsRules}
-use Rattle.voice.specs.declared.input.Input.{Input}
 use Rattle.voice.specs.declared.answer.PlayAnswer.{PlayAnswer}
 use Rattle.voice.specs.declared.answer.Played.{Played}
 use Rattle.voice.specs.declared.voice.Voice.{Voice}
@@ -29,22 +25,16 @@ playNumber PlayAnswer.BadFrequency = 16
 abbrev pub blockOk : ℕ → ℕ → ℕ → Bool
 blockOk n channels len = leb n 128 && (leb 1 channels && (leb channels 8 && eqb len (channels * n)))
 
--- question 15 is put to every connected input, also to gains that the voice does not sound by
-abbrev pub gainsOk : Gains → ℕ → Bool
-gainsOk g n =
-    inputOk (g .g0) n (length (g .s0))
-    && (inputOk (g .g1) n (length (g .s1)) && (inputOk (g .g2) n (length (g .s2)) && inputOk (g .g3) n (length (g .s3))))
-
--- questions 14 to 16, which the call's own arguments answer
-unfoldable pub callQuestion : ℕ → Input → List Float → Gains → ℕ → ℕ → ℕ
-callQuestion n freq fs g channels len =
-    ask (blockOk n channels len) 14
-    (ask (inputOk freq n (length fs) && gainsOk g n) 15
-    (ask (frequenciesOk freq fs) 16 0))
+-- questions 14 to 16, which the call's own arguments and the length of its output answer
+unfoldable pub callQuestion : Call → ℕ → ℕ
+callQuestion c len =
+    ask (blockOk (c .shape .samples) (c .shape .channels) len) 14
+    (ask (inputsOk c) 15
+    (ask (frequenciesOk (c .shape .freq) (c .freq)) 16 0))
 
 -- the first question that is answered no, or 0
-unfoldable pub playQuestion : Voice → ℕ → Input → List Float → Gains → ℕ → ℕ → ℕ
-playQuestion v n freq fs g channels len = ask (keepsRules v) 13 (callQuestion n freq fs g channels len)
+unfoldable pub playQuestion : Voice → Call → ℕ → ℕ
+playQuestion v c len = ask (keepsRules v) 13 (callQuestion c len)
 
 -- by the question's number: what an accepted call leaves, or what was given
 abbrev pub accepted : {A : Type 0} → ℕ → A → A → A

@@ -2,17 +2,21 @@
 use Prim.Native.Nat.{ℕ}
 use Rattle.filters.specs.Rng.{newRng}
 use Rattle.voice.specs.Question.{ask, accepted, Outcome}
-use Rattle.voice.specs.Voice.{keepsRules, withState, firstState, clearedMemories}
+use Rattle.voice.specs.Voice.{keepsRules, withState, stateOf, firstState, noMemories}
 use Rattle.voice.specs.declared.voice.State.{State}
 use Rattle.voice.specs.declared.voice.Voice.{Voice}
 
 -- reset: phases and memories 0, the default seed, whatever was reseeded
 unfoldable pub resetOf : Voice → Outcome
-resetOf v = let q = ask (keepsRules v) 13 0 in record { number = q; voice = accepted q (withState v firstState) v }
+resetOf v =
+    let q = ask (keepsRules v) 13 0 in
+    record { number = q; voice = accepted q (withState v firstState) v }
 
 -- reseed: the seed is taken, the memories are 0, the phases kept
 abbrev pub reseededState : State → ℕ → State
-reseededState s seed = record { phases = s .phases; memories = clearedMemories; rng = newRng seed }
+reseededState s seed = stateOf (s .phases) noMemories (newRng seed)
 
 unfoldable pub reseedOf : Voice → ℕ → Outcome
-reseedOf v seed = let q = ask (keepsRules v) 13 0 in record { number = q; voice = accepted q (withState v (reseededState (v .state) seed)) v }
+reseedOf v seed =
+    let q = ask (keepsRules v) 13 0 in
+    record { number = q; voice = accepted q (withState v (reseededState (v .state) seed)) v }

@@ -1,20 +1,59 @@
--- The voice rules, which question 13 asks; a voice with another running state, and the first one.
-use Prim.Native.Nat.{ℕ, _+_, _-_}
+-- A voice: its lists by their names, the voice rules, which question 13 asks, and its running state: another one, and the first.
+use Prim.Native.Nat.{ℕ, _+_, _-_, _*_}
 use mathlib.Core.List.{List}
 use mathlib.Core.Bool.{Bool, true, false, not, _&&_}
-use lib.ListN.{getD, replicate}
+use lib.ListN.{getD, set, replicate}
 use lib.Dec.{leb, ltb, eqb}
 use lib.Ieee.{Float, nan, le, lt}
 use Rattle.float.specs.F32.{nearest}
-use Rattle.voice.specs.Lists.{every}
+use Rattle.voice.specs.Lists.{every, upTo}
 pub use Rattle.filters.specs.Rate.{rateOk}
-use Rattle.filters.specs.Biquad.{cleared}
 use Rattle.filters.specs.Rng.{newRng, defaultSeed}
 use Rattle.filters.specs.declared.biquad.BiquadCoeffs.{BiquadCoeffs}
 use Rattle.filters.specs.declared.biquad.BiquadState.{BiquadState}
+use Rattle.filters.specs.declared.rng.Rng.{Rng}
+use Rattle.voice.specs.declared.voice.Setting.{Setting}
 use Rattle.voice.specs.declared.voice.State.{State}
 use Rattle.voice.specs.declared.voice.Voice.{Voice}
 
+-- ---- the short lists: 16 places each, one after the other in one
+-- list n of them
+unfoldable pub listAt : List Float → ℕ → List Float
+listAt xs n = upTo (λ i. getD xs (n * 16 + i) nan) 16
+
+abbrev pub pitches : Voice → List Float
+pitches v = listAt (v .lists) 0
+
+abbrev pub stretches : Voice → List Float
+stretches v = listAt (v .lists) 1
+
+abbrev pub mainlobes : Voice → List Float
+mainlobes v = listAt (v .lists) 2
+
+abbrev pub noiseGains : Voice → List Float
+noiseGains v = listAt (v .lists) 3
+
+abbrev pub compensations : Voice → List Float
+compensations v = listAt (v .lists) 9
+
+-- the five coefficients of band b: the bands stand after the first four lists
+abbrev pub bandAt : List Float → ℕ → BiquadCoeffs
+bandAt xs b = record {
+  b0 = getD xs (64 + b * 5) nan;
+  b1 = getD xs (64 + b * 5 + 1) nan;
+  b2 = getD xs (64 + b * 5 + 2) nan;
+  a1 = getD xs (64 + b * 5 + 3) nan;
+  a2 = getD xs (64 + b * 5 + 4) nan;
+}
+
+-- ---- the memories of the running state, two a band: those of band b, and others in their place
+abbrev pub memoryAt : List Float → ℕ → BiquadState
+memoryAt ms b = record { z1 = getD ms (b * 2) nan; z2 = getD ms (b * 2 + 1) nan }
+
+abbrev pub withMemory : List Float → ℕ → BiquadState → List Float
+withMemory ms b s = set (set ms (b * 2) (s .z1)) (b * 2 + 1) (s .z2)
+
+-- ---- the voice rules
 -- a phase is at least 0 and below 1
 abbrev pub phaseOk : Float → Bool
 phaseOk p = le (nearest 0 1) p && lt p (nearest 1 1)
@@ -35,60 +74,45 @@ abbrev pub bandsAscend : List ℕ → ℕ → Bool
 bandsAscend l n = every (λ i. ltb (getD l i 0) (getD l (i + 1) 0)) (n - 1)
 
 -- at most 16 entries, 32 phases, 16 bands, 4 blend channels (and 16 live bands, since each is below j and none comes twice)
-unfoldable pub countsOk : Voice → Bool
-countsOk v = leb (v .count) 16 && (leb (v .m) 32 && (leb (v .j) 16 && (leb (v .k) 4 && leb (v .«live_count») 16)))
+unfoldable pub countsOk : Setting → Bool
+countsOk s = leb (s .count) 16 && (leb (s .m) 32 && (leb (s .j) 16 && (leb (s .k) 4 && leb (s .«live_count») 16)))
 
--- pitches finite, above 0, at most 20,000, ascending with equal ones allowed; stretches 0 to 4
-unfoldable pub entriesOk : Voice → Bool
-entriesOk v =
-    every (λ i. pitchOk (getD (v .«f0_hz») i nan)) (v .count)
-    && (pitchesAscend (v .«f0_hz») (v .count) && every (λ i. stretchOk (getD (v .stretch) i nan)) (v .count))
+-- of the first n entries: pitches finite, above 0, at most 20,000, ascending with equal ones allowed; stretches 0 to 4
+unfoldable pub entriesOk : List Float → ℕ → Bool
+entriesOk xs n =
+    every (λ i. pitchOk (getD (listAt xs 0) i nan)) n
+    && (pitchesAscend (listAt xs 0) n && every (λ i. stretchOk (getD (listAt xs 1) i nan)) n)
 
 -- live bands ascending, each below j
-unfoldable pub liveOk : Voice → Bool
-liveOk v = every (λ i. ltb (getD (v .live) i 0) (v .j)) (v .«live_count») && bandsAscend (v .live) (v .«live_count»)
+unfoldable pub liveOk : Setting → Bool
+liveOk s = every (λ i. ltb (getD (s .live) i 0) (s .j)) (s .«live_count») && bandsAscend (s .live) (s .«live_count»)
 
 -- the first m phases at least 0 and below 1
 unfoldable pub phasesOk : List Float → ℕ → Bool
 phasesOk ps m = every (λ i. phaseOk (getD ps i nan)) m
 
--- question 13: does the voice keep the voice rules? (The sample rate is 8,000 to 192,000 by `rateOk`.)
-unfoldable pub keepsRules : Voice → Bool
-keepsRules v = countsOk v && (entriesOk v && (rateOk (v .«sample_rate») && (liveOk v && phasesOk (v .state .phases) (v .m))))
+-- question 13, of what of a voice it looks at: its numbers, its short lists and its phases. (The sample rate is 8,000 to 192,000 by `rateOk`.)
+unfoldable pub rulesOf : Setting → List Float → List Float → Bool
+rulesOf s lists phases =
+    countsOk s && (entriesOk lists (s .count) && (rateOk (s .«sample_rate») && (liveOk s && phasesOk phases (s .m))))
 
--- what an element past the end of a list of bands or memories is
-abbrev pub noCoeffs : BiquadCoeffs
-noCoeffs = record { b0 = nan; b1 = nan; b2 = nan; a1 = nan; a2 = nan }
+-- does the voice keep the voice rules?
+abbrev pub keepsRules : Voice → Bool
+keepsRules v = rulesOf (v .set) (v .lists) (v .state .phases)
 
-abbrev pub noState : BiquadState
-noState = record { z1 = nan; z2 = nan }
+-- ---- a voice put together, and with another running state
+abbrev pub voiceOf : Setting → List Float → List Float → List Float → State → Voice
+voiceOf s lists partials noise state = record { set = s; lists = lists; partials = partials; noise = noise; state = state }
 
--- a voice with another running state
+abbrev pub stateOf : List Float → List Float → Rng → State
+stateOf phases memories rng = record { phases = phases; memories = memories; rng = rng }
+
 abbrev pub withState : Voice → State → Voice
-withState v s = record {
-  blend = v .blend;
-  channel = v .channel;
-  count = v .count;
-  k = v .k;
-  m = v .m;
-  j = v .j;
-  «live_count» = v .«live_count»;
-  live = v .live;
-  «sample_rate» = v .«sample_rate»;
-  «f0_hz» = v .«f0_hz»;
-  stretch = v .stretch;
-  «mainlobe_gain» = v .«mainlobe_gain»;
-  «noise_gain» = v .«noise_gain»;
-  partials = v .partials;
-  noise = v .noise;
-  bands = v .bands;
-  compensation = v .compensation;
-  state = s;
-}
+withState v s = voiceOf (v .set) (v .lists) (v .partials) (v .noise) s
 
 -- the running state at first and after a reset: all 0, and the default seed's noise number
-abbrev pub clearedMemories : List BiquadState
-clearedMemories = replicate 16 cleared
+abbrev pub noMemories : List Float
+noMemories = replicate 32 (nearest 0 1)
 
 abbrev pub firstState : State
-firstState = record { phases = replicate 32 (nearest 0 1); memories = clearedMemories; rng = newRng defaultSeed }
+firstState = stateOf (replicate 32 (nearest 0 1)) noMemories (newRng defaultSeed)

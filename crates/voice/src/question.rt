@@ -1,17 +1,15 @@
 // Questions 13 to 16 of a play.
 ghost use mathlib.Core.Path.{_≡_};
-ghost use mathlib.Core.Bool.{_&&_};
 ghost use Prim.Native.Nat.{_≤_};
 ghost use lib.ListN.{length, getD};
 ghost use lib.Ieee.{nan};
 ghost use Rattle.voice.specs.Lists.{every};
-ghost use Rattle.voice.specs.Input.{inputOk, frequencyOk, frequenciesOk};
-ghost use Rattle.voice.specs.Parts.{rulesOf};
-ghost use Rattle.voice.specs.Question.{blockOk, ask};
-use crate::input::Input;
-use crate::input::input_ok;
+ghost use Rattle.voice.specs.Input.{call, inputOk, inputsOf, frequencyOk, frequenciesOk};
+ghost use Rattle.voice.specs.Voice.{rulesOf};
+ghost use Rattle.voice.specs.Question.{ask, blockOk, callQuestion};
 use crate::rules::both;
 use crate::rules::rules_of;
+use crate::shape::Shape;
 use crate::voice::Setting;
 
 // Question 16 of one frequency.
@@ -37,14 +35,14 @@ fn all_frequencies_ok(s: &[f32]) -> bool
     ok
 }
 
-// Question 16.
-fn frequencies_ok(freq: Input, s: &[f32]) -> bool
-    ensures { λ r. ⌜ r ≡ frequenciesOk freq (now (s .entry)) ⌝ }
+// Question 16 of an input of k channels.
+fn frequencies_ok(k: usize, s: &[f32]) -> bool
+    ensures { λ r. ⌜ r ≡ frequenciesOk k (now (s .entry)) ⌝ }
 {
-    match freq {
-        Input::Unconnected => true,
-        Input::Channels(_) => all_frequencies_ok(s),
+    if k == 0 {
+        return true;
     }
+    all_frequencies_ok(s)
 }
 
 // Question 14.
@@ -66,76 +64,66 @@ fn block_ok(samples: usize, channels: usize, len: usize) -> bool
     }
 }
 
-// Question 15.
-fn inputs_ok(
-    samples: usize,
-    freq: Input,
-    freq_len: usize,
-    g0: Input,
-    g0_len: usize,
-    g1: Input,
-    g1_len: usize,
-    g2: Input,
-    g2_len: usize,
-    g3: Input,
-    g3_len: usize,
-) -> bool
+// Question 15 of an input of k channels.
+fn input_ok(k: usize, samples: usize, len: usize) -> bool
     requires { ⌜ samples ≤ 128 ⌝ }
-    ensures { λ r. ⌜ r ≡ inputOk freq samples «freq_len» && (inputOk g0 samples «g0_len» && (inputOk g1 samples «g1_len» && (inputOk g2 samples «g2_len» && inputOk g3 samples «g3_len»))) ⌝ }
+    ensures { λ r. ⌜ r ≡ inputOk k samples len ⌝ }
 {
-    let f = input_ok(freq, samples, freq_len);
-    let a = input_ok(g0, samples, g0_len);
-    let b = input_ok(g1, samples, g1_len);
-    let c = input_ok(g2, samples, g2_len);
-    let d = input_ok(g3, samples, g3_len);
-    both(f, both(a, both(b, both(c, d))))
+    if k == 0 {
+        return true;
+    }
+    if k <= 8 {
+        return k * samples == len;
+    }
+    false
 }
 
-// The first of questions 13 to 16 that is answered no, or 0.
+// Question 15, by the lengths of the five slices.
+fn inputs_ok(
+    b: Shape,
+    freq_len: usize,
+    g0_len: usize,
+    g1_len: usize,
+    g2_len: usize,
+    g3_len: usize,
+) -> bool
+    requires { ⌜ b .samples ≤ 128 ⌝ }
+    ensures { λ r. ⌜ r ≡ inputsOf b «freq_len» «g0_len» «g1_len» «g2_len» «g3_len» ⌝ }
+{
+    let f = input_ok(b.freq, b.samples, freq_len);
+    let a0 = input_ok(b.g0, b.samples, g0_len);
+    let a1 = input_ok(b.g1, b.samples, g1_len);
+    let a2 = input_ok(b.g2, b.samples, g2_len);
+    let a3 = input_ok(b.g3, b.samples, g3_len);
+    both(f, both(a0, both(a1, both(a2, a3))))
+}
+
+// The first of questions 13 to 16 that is answered no, or 0: of a voice's numbers, short lists and phases, a call, and the length of its output.
 pub fn play_question<'a>(
     set: Setting,
-    live: &'a [usize; 16],
-    f0_hz: &'a [f32; 16],
-    stretch: &'a [f32; 16],
+    lists: &'a [f32; 160],
     phases: &'a [f32; 32],
-    samples: usize,
-    freq: Input,
-    freq_s: &[f32],
-    g0: Input,
-    g0_len: usize,
-    g1: Input,
-    g1_len: usize,
-    g2: Input,
-    g2_len: usize,
-    g3: Input,
-    g3_len: usize,
-    channels: usize,
+    b: Shape,
+    freq: &[f32],
+    g0: &[f32],
+    g1: &[f32],
+    g2: &[f32],
+    g3: &[f32],
     len: usize,
 ) -> u32
-    ensures { λ r. ⌜ r ≡ ask (rulesOf set (now (live .entry)) (now («f0_hz» .entry)) (now (stretch .entry)) (now (phases .entry))) 13 (ask (blockOk samples channels len) 14 (ask (inputOk freq samples (length (now («freq_s» .entry))) && (inputOk g0 samples «g0_len» && (inputOk g1 samples «g1_len» && (inputOk g2 samples «g2_len» && inputOk g3 samples «g3_len»)))) 15 (ask (frequenciesOk freq (now («freq_s» .entry))) 16 0))) ⌝ }
+    ensures { λ r. ⌜ r ≡ ask (rulesOf set (now (lists .entry)) (now (phases .entry))) 13
+        (callQuestion (call b (now (freq .entry)) (now (g0 .entry)) (now (g1 .entry)) (now (g2 .entry)) (now (g3 .entry))) len) ⌝ }
 {
-    if !rules_of(set, live, f0_hz, stretch, phases) {
+    if !rules_of(set, lists, phases) {
         return 13;
     }
-    if !block_ok(samples, channels, len) {
+    if !block_ok(b.samples, b.channels, len) {
         return 14;
     }
-    if !inputs_ok(
-        samples,
-        freq,
-        freq_s.len(),
-        g0,
-        g0_len,
-        g1,
-        g1_len,
-        g2,
-        g2_len,
-        g3,
-        g3_len,
-    ) {
+    if !inputs_ok(b, freq.len(), g0.len(), g1.len(), g2.len(), g3.len()) {
         return 15;
     }
-    if !frequencies_ok(freq, freq_s) {
+    if !frequencies_ok(b.freq, freq) {
         return 16;
     }
     0

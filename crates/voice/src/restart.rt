@@ -2,13 +2,24 @@
 ghost use mathlib.Core.Path.{_≡_};
 ghost use Rattle.voice.specs.Question.{outcomeOf};
 ghost use Rattle.voice.specs.Restart.{resetOf, reseedOf};
+ghost use Rattle.voice.specs.Voice.{firstState};
 use crate::answer::PlayAnswer;
 use crate::answer::Played;
 use crate::rules::keeps_rules;
 use crate::voice::State;
 use crate::voice::Voice;
-use filters::BiquadState;
 use filters::Rng;
+
+// Phases and memories 0, and the default seed.
+pub fn first_state() -> State
+    ensures { λ r. ⌜ r ≡ firstState ⌝ }
+{
+    State {
+        phases: [0.0; 32],
+        memories: [0.0; 32],
+        rng: Rng::default(),
+    }
+}
 
 // The state that a fresh voice has.
 pub fn reset(mut voice: Voice) -> Played
@@ -20,11 +31,7 @@ pub fn reset(mut voice: Voice) -> Played
             voice,
         };
     }
-    let state = State {
-        phases: [0.0; 32],
-        memories: [BiquadState { z1: 0.0, z2: 0.0 }; 16],
-        rng: Rng::default(),
-    };
+    let state = first_state();
     voice.state = state;
     Played {
         answer: PlayAnswer::Done,
@@ -46,7 +53,7 @@ pub fn reseed(mut voice: Voice, seed: u32) -> Played
     let phases = old.phases;
     let state = State {
         phases,
-        memories: [BiquadState { z1: 0.0, z2: 0.0 }; 16],
+        memories: [0.0; 32],
         rng: Rng::new(seed),
     };
     voice.state = state;

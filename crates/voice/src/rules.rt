@@ -6,8 +6,10 @@ ghost use lib.ListN.{getD};
 ghost use lib.Ieee.{nan};
 ghost use lib.Dec.{leb, ltb};
 ghost use Rattle.voice.specs.Lists.{every};
-ghost use Rattle.voice.specs.Parts.{settingOf, rulesOf};
-ghost use Rattle.voice.specs.Voice.{phaseOk, pitchOk, stretchOk, rateOk, pitchesAscend, bandsAscend, phasesOk, keepsRules};
+ghost use Rattle.voice.specs.Voice.{phaseOk, pitchOk, stretchOk, rateOk, pitchesAscend, bandsAscend, phasesOk, rulesOf, keepsRules};
+use crate::lists::PITCHES;
+use crate::lists::STRETCHES;
+use crate::lists::list_of;
 use crate::voice::Setting;
 use crate::voice::Voice;
 
@@ -128,57 +130,31 @@ fn counts_ok(count: usize, m: usize, j: usize, k: usize, live_count: usize) -> b
     )
 }
 
-// Question 13, of a voice in parts.
-pub fn rules_of<'a>(
-    set: Setting,
-    live: &'a [usize; 16],
-    f0_hz: &'a [f32; 16],
-    stretch: &'a [f32; 16],
-    phases: &'a [f32; 32],
-) -> bool
-    ensures { λ r. ⌜ r ≡ rulesOf set (now (live .entry)) (now («f0_hz» .entry)) (now (stretch .entry)) (now (phases .entry)) ⌝ }
+// Question 13, of what of a voice it looks at: its numbers, its short lists and its phases.
+pub fn rules_of<'a>(set: Setting, lists: &'a [f32; 160], phases: &'a [f32; 32]) -> bool
+    ensures { λ r. ⌜ r ≡ rulesOf set (now (lists .entry)) (now (phases .entry)) ⌝ }
 {
     if !counts_ok(set.count, set.m, set.j, set.k, set.live_count) {
         return false;
     }
-    let pitches = pitches_ok(f0_hz, set.count);
-    let ascend = pitches_ascend(f0_hz, set.count);
-    let stretches = stretches_ok(stretch, set.count);
+    let f0_hz = list_of(lists, PITCHES);
+    let stretch = list_of(lists, STRETCHES);
+    let pitches = pitches_ok(&f0_hz, set.count);
+    let ascend = pitches_ascend(&f0_hz, set.count);
+    let stretches = stretches_ok(&stretch, set.count);
     let rate = rate_ok(set.sample_rate);
-    let below = live_below(live, set.live_count, set.j);
-    let order = bands_ascend(live, set.live_count);
+    let below = live_below(&set.live, set.live_count, set.j);
+    let order = bands_ascend(&set.live, set.live_count);
     let moving = phases_ok(phases, set.m);
     let entries = both(pitches, both(ascend, stretches));
     both(entries, both(rate, both(both(below, order), moving)))
-}
-
-// The numbers of a voice.
-pub fn setting_of(voice: Voice) -> Setting
-    ensures { λ r. ⌜ r ≡ settingOf voice ⌝ }
-{
-    Setting {
-        blend: voice.blend,
-        channel: voice.channel,
-        count: voice.count,
-        k: voice.k,
-        m: voice.m,
-        j: voice.j,
-        live_count: voice.live_count,
-        sample_rate: voice.sample_rate,
-    }
 }
 
 // Question 13.
 pub fn keeps_rules(voice: Voice) -> bool
     ensures { λ r. ⌜ r ≡ keepsRules voice ⌝ }
 {
-    let set = setting_of(voice);
+    let set = voice.set;
     let state = voice.state;
-    rules_of(
-        set,
-        &voice.live,
-        &voice.f0_hz,
-        &voice.stretch,
-        &state.phases,
-    )
+    rules_of(set, &voice.lists, &state.phases)
 }

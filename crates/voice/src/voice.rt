@@ -1,48 +1,34 @@
 // A voice: everything that a tone is made of, by value. It crosses to C as it is.
-use filters::BiquadCoeffs;
-use filters::BiquadState;
 use filters::Rng;
 
-// The running state: phases, two memories for each band, and the noise number.
+// The running state: phases, two memories for each band, one band after the other, and the noise number.
 #[repr(C)]
 pub struct State {
     pub phases: [f32; 32],
-    pub memories: [BiquadState; 16],
+    pub memories: [f32; 32],
     pub rng: Rng,
 }
 
-// Places that are not in use are 0 in a fresh voice and stay as given.
+// A voice's numbers.
 #[repr(C)]
-pub struct Voice {
+pub struct Setting {
     pub blend: u32, // 0: a single voice of the channel below; else a blend
     pub channel: u32, // a single voice's channel of the table
     pub count: usize, // entries
     pub k: usize, // channels that are blended; 1 of a single voice
     pub m: usize, // phases
     pub j: usize, // bands
-    pub live_count: usize, // live bands, and which they are
-    pub live: [usize; 16],
+    pub live_count: usize, // live bands, and below which they are
     pub sample_rate: f32,
-    pub f0_hz: [f32; 16], // pitches, ascending
-    pub stretch: [f32; 16],
-    pub mainlobe_gain: [f32; 16],
-    pub noise_gain: [f32; 16],
-    pub partials: [f32; 2048], // entry × 128 + channel × 32 + partial
-    pub noise: [f32; 1024], // entry × 64 + channel × 16 + band
-    pub bands: [BiquadCoeffs; 16],
-    pub compensation: [f32; 16],
-    pub state: State,
+    pub live: [usize; 16],
 }
 
-// A voice's numbers, beside which its lists are lent.
+// Places that are not in use are 0 in a fresh voice. A play leaves them as given; reset and reseed write all of the state.
 #[repr(C)]
-pub struct Setting {
-    pub blend: u32,
-    pub channel: u32,
-    pub count: usize,
-    pub k: usize,
-    pub m: usize,
-    pub j: usize,
-    pub live_count: usize,
-    pub sample_rate: f32,
+pub struct Voice {
+    pub set: Setting,
+    pub lists: [f32; 160], // 16 pitches, ascending; 16 stretches, mainlobe gains and noise gains; 16 bands of five coefficients; 16 compensations
+    pub partials: [f32; 2048], // entry × 128 + channel × 32 + partial
+    pub noise: [f32; 1024], // entry × 64 + channel × 16 + band
+    pub state: State,
 }

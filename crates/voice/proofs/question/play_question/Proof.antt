@@ -1,6 +1,6 @@
 -- `play_question` meets its contract.
 use Rattle.voice.proofs.QuestionLaws.{block-is}
-use Rattle.voice.specs.Question.{ask}
+use Rattle.voice.specs.Question.{ask, callQuestion}
 use borrow.Author.Tests.{not-true, not-false}
 use mathlib.Core.Path.{sym, _∙_}
 use borrow.Author.Needs.{needs}
@@ -20,7 +20,7 @@ block-ok-requires : tie.Need-block-ok-requires
 block-ok-requires c κs = search needs
 
 returns-2 : tie.Need-returns-2
-unfolding ask
+unfolding ask callQuestion
 returns-2 c =
     let b1 = c .before in
     let b2 = b1 .before in
@@ -30,11 +30,11 @@ returns-2 c =
 inputs-ok-requires : tie.Need-inputs-ok-requires
 inputs-ok-requires c κs =
     let b1 = c .before in
-    let b5 = b1 .before .before .before .before in
-    block-is (b5 .args .samples) (b5 .args .channels) (b5 .args .len) (sym (b1 .block-ok .ensures) ∙ not-false _ (c .if2 .left)) .0
+    let b9 = b1 .before .before .before .before .before .before .before .before in
+    block-is (b9 .args .b .samples) (b9 .args .b .channels) (b9 .args .len) (sym (b1 .block-ok .ensures) ∙ not-false _ (c .if2 .left)) .0
 
 returns-3 : tie.Need-returns-3
-unfolding ask
+unfolding ask callQuestion
 returns-3 c =
     let b1 = c .before in
     let b2 = b1 .before in
@@ -47,7 +47,7 @@ frequencies-ok-requires : tie.Need-frequencies-ok-requires
 frequencies-ok-requires c κs = search needs
 
 returns-4 : tie.Need-returns-4
-unfolding ask
+unfolding ask callQuestion
 returns-4 c =
     let b1 = c .before in
     let b2 = b1 .before in
@@ -59,7 +59,7 @@ returns-4 c =
     rw (sym (b7 .rules-of .ensures) ∙ not-false _ (b6 .if1 .left), sym (b5 .block-ok .ensures) ∙ not-false _ (b4 .if2 .left), sym (b3 .inputs-ok .ensures) ∙ not-false _ (b2 .if3 .left), sym (b1 .frequencies-ok .ensures) ∙ not-true _ (c .if4 .taken))
 
 returns-5 : tie.Need-returns-5
-unfolding ask
+unfolding ask callQuestion
 returns-5 c =
     let b1 = c .before in
     let b2 = b1 .before in

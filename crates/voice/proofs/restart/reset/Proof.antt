@@ -17,15 +17,15 @@ returns c =
     let b1 = c .before in
     rw (sym (b1 .keeps-rules .ensures) ∙ not-true _ (c .if1 .taken))
 
-default-requires : tie.Need-default-requires
-default-requires c κs = search needs
+first-state-requires : tie.Need-first-state-requires
+first-state-requires c κs = search needs
 
 returns-2 : tie.Need-returns-2
 unfolding resetOf ask ofBits round
 returns-2 c =
     let b1 = c .before in
     let b2 = b1 .before in
-    rw (sym (b2 .keeps-rules .ensures) ∙ not-false _ (b1 .if1 .left), c .default .ensures)
+    rw (sym (b2 .keeps-rules .ensures) ∙ not-false _ (b1 .if1 .left), c .first-state .ensures)
 
 pub reset-spec : {M : Type 1} → statement M
-reset-spec = tie.close (tie.spec keeps-rules-requires returns default-requires returns-2)
+reset-spec = tie.close (tie.spec keeps-rules-requires returns first-state-requires returns-2)

@@ -1,48 +1,84 @@
 -- `rules_of` meets its contract.
 use Prim.Native.Nat.{_≤_}
-use mathlib.Core.Path.{sym, _∙_}
+use mathlib.Core.Path.{_≡_, sym, _∙_}
+use mathlib.Core.Bool.{true}
 use borrow.Author.Tests.{not-true, not-false}
-use Rattle.voice.specs.Voice.{keepsRules, countsOk, entriesOk, liveOk}
+use Rattle.voice.specs.Voice.{rulesOf, countsOk, entriesOk, liveOk}
+use Rattle.voice.specs.declared.voice.Setting.{Setting}
 use Rattle.voice.proofs.QuestionLaws.{counts-are}
 use borrow.Author.Needs.{needs}
 use Rattle.voice.proofs.rules.rules_of.Statement.{statement}
 use Rattle.voice.proofs.rules.rules_of.Tie as tie
 
-sizes : (c : tie.Else1) → let s = c .before .before .args .set in (s .count ≤ 16) × (s .m ≤ 32) × (s .j ≤ 16) × (s .k ≤ 4) × (s .«live_count» ≤ 16)
-sizes c =
-    let b1 = c .before in
-    let s = b1 .before .args .set in
-    counts-are (s .count) (s .m) (s .j) (s .k) (s .«live_count») (sym (b1 .counts-ok .ensures) ∙ not-false _ (c .if1 .left))
+sizes : (s : Setting) → countsOk s ≡ true → (s .count ≤ 16) × (s .m ≤ 32) × (s .j ≤ 16) × (s .k ≤ 4) × (s .«live_count» ≤ 16)
+unfolding countsOk
+sizes s h = counts-are (s .count) (s .m) (s .j) (s .k) (s .«live_count») h
 
 counts-ok-requires : tie.Need-counts-ok-requires
 counts-ok-requires c κs = search needs
 
 returns : tie.Need-returns
-unfolding keepsRules countsOk
+unfolding rulesOf countsOk
 returns c =
     let b1 = c .before in
     rw (sym (b1 .counts-ok .ensures) ∙ not-true _ (c .if1 .taken))
 
+list-of-requires : tie.Need-list-of-requires
+list-of-requires c κs = search needs
+
+list-of-requires-2 : tie.Need-list-of-requires-2
+list-of-requires-2 c κs = search needs
+
 pitches-ok-requires : tie.Need-pitches-ok-requires
-pitches-ok-requires c κs = sizes c .0
+unfolding countsOk
+pitches-ok-requires c κs =
+    let b3 = c .before .before .before in
+    let b4 = b3 .before in
+    let b5 = b4 .before in
+    sizes (b5 .args .t1) (sym (b4 .counts-ok .ensures) ∙ not-false _ (b3 .if1 .left)) .0
 
 pitches-ascend-requires : tie.Need-pitches-ascend-requires
-pitches-ascend-requires c κs = sizes (c .before) .0
+unfolding countsOk
+pitches-ascend-requires c κs =
+    let b5 = c .before .before .before .before .before in
+    let b6 = b5 .before in
+    let b7 = b6 .before in
+    sizes (b7 .args .t1) (sym (b6 .counts-ok .ensures) ∙ not-false _ (b5 .if1 .left)) .0
 
 stretches-ok-requires : tie.Need-stretches-ok-requires
-stretches-ok-requires c κs = sizes (c .before .before) .0
+unfolding countsOk
+stretches-ok-requires c κs =
+    let b7 = c .before .before .before .before .before .before .before in
+    let b8 = b7 .before in
+    let b9 = b8 .before in
+    sizes (b9 .args .t1) (sym (b8 .counts-ok .ensures) ∙ not-false _ (b7 .if1 .left)) .0
 
 rate-ok-requires : tie.Need-rate-ok-requires
 rate-ok-requires c κs = search needs
 
 live-below-requires : tie.Need-live-below-requires
-live-below-requires c κs = sizes (c .before .before .before .before) .4
+unfolding countsOk
+live-below-requires c κs =
+    let b11 = c .before .before .before .before .before .before .before .before .before .before .before in
+    let b12 = b11 .before in
+    let b13 = b12 .before in
+    sizes (b13 .args .t1) (sym (b12 .counts-ok .ensures) ∙ not-false _ (b11 .if1 .left)) .4
 
 bands-ascend-requires : tie.Need-bands-ascend-requires
-bands-ascend-requires c κs = sizes (c .before .before .before .before .before) .4
+unfolding countsOk
+bands-ascend-requires c κs =
+    let b14 = c .before .before .before .before .before .before .before .before .before .before .before .before .before .before in
+    let b15 = b14 .before in
+    let b16 = b15 .before in
+    sizes (b16 .args .t1) (sym (b15 .counts-ok .ensures) ∙ not-false _ (b14 .if1 .left)) .4
 
 phases-ok-requires : tie.Need-phases-ok-requires
-phases-ok-requires c κs = sizes (c .before .before .before .before .before .before) .1
+unfolding countsOk
+phases-ok-requires c κs =
+    let b15 = c .before .before .before .before .before .before .before .before .before .before .before .before .before .before .before in
+    let b16 = b15 .before in
+    let b17 = b16 .before in
+    sizes (b17 .args .t1) (sym (b16 .counts-ok .ensures) ∙ not-false _ (b15 .if1 .left)) .1
 
 both-requires : tie.Need-both-requires
 both-requires c κs = search needs
@@ -63,7 +99,7 @@ both-requires-6 : tie.Need-both-requires-6
 both-requires-6 c κs = search needs
 
 returns-2 : tie.Need-returns-2
-unfolding keepsRules countsOk entriesOk liveOk
+unfolding rulesOf countsOk entriesOk liveOk
 returns-2 c =
     let b1 = c .before in
     let b2 = b1 .before in
@@ -72,14 +108,16 @@ returns-2 c =
     let b5 = b4 .before in
     let b6 = b5 .before in
     let b7 = b6 .before in
-    let b8 = b7 .before in
-    let b9 = b8 .before in
-    let b10 = b9 .before in
-    let b11 = b10 .before in
-    let b12 = b11 .before in
-    let b13 = b12 .before in
+    let b10 = b7 .before .before .before in
+    let b13 = b10 .before .before .before in
     let b14 = b13 .before in
-    rw (sym (b14 .counts-ok .ensures) ∙ not-false _ (b13 .if1 .left), c .both6 .ensures, b1 .both5 .ensures, b2 .both4 .ensures, b3 .both3 .ensures, b4 .both2 .ensures, b5 .both .ensures, b12 .pitches-ok .ensures, b11 .pitches-ascend .ensures, b10 .stretches-ok .ensures, b9 .rate-ok .ensures, b8 .live-below .ensures, b7 .bands-ascend .ensures, b6 .phases-ok .ensures)
+    let b16 = b14 .before .before in
+    let b18 = b16 .before .before in
+    let b20 = b18 .before .before in
+    let b21 = b20 .before in
+    let b22 = b21 .before in
+    let b23 = b22 .before in
+    rw (sym (b23 .counts-ok .ensures) ∙ not-false _ (b22 .if1 .left), c .both6 .ensures, b1 .both5 .ensures, b2 .both4 .ensures, b3 .both3 .ensures, b4 .both2 .ensures, b5 .both .ensures, b18 .pitches-ok .ensures, b16 .pitches-ascend .ensures, b14 .stretches-ok .ensures, b13 .rate-ok .ensures, b10 .live-below .ensures, b7 .bands-ascend .ensures, b6 .phases-ok .ensures, b21 .list-of .ensures, b20 .list-of2 .ensures)
 
 pub rules-of-spec : {M : Type 1} → statement M
 rules-of-spec =
@@ -87,6 +125,8 @@ rules-of-spec =
     (tie.spec
     counts-ok-requires
     returns
+    list-of-requires
+    list-of-requires-2
     pitches-ok-requires
     pitches-ascend-requires
     stretches-ok-requires

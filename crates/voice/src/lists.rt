@@ -1,0 +1,29 @@
+// The short lists of a voice: 16 places each, one after the other in one array.
+ghost use mathlib.Core.Path.{_≡_};
+ghost use Rattle.voice.specs.Voice.{listAt};
+
+// Which is which. The bands' coefficients, five a band, take the place of lists 4 to 8.
+pub const PITCHES: usize = 0;
+pub const STRETCHES: usize = 1;
+pub const MAINLOBE_GAINS: usize = 2;
+pub const NOISE_GAINS: usize = 3;
+pub const COMPENSATIONS: usize = 9;
+
+// List n by itself; where there is none, no number in any place.
+pub fn list_of(lists: &[f32; 160], n: usize) -> [f32; 16]
+    ensures { λ r. ⌜ r ≡ listAt (now (lists .entry)) n ⌝ }
+{
+    let s = &lists[..];
+    if 10 <= n {
+        return [0.0 / 0.0; 16];
+    }
+    let mut list: [f32; 16] = [0.0; 16];
+    let from = n * 16;
+    let mut i = 0;
+    while i < 16 {
+        let at = from + i;
+        list[i] = s[at];
+        i += 1;
+    }
+    list
+}
