@@ -3,9 +3,8 @@ use Prim.Native.Nat.{ℕ}
 use mathlib.Core.List.{List}
 use lib.Ieee.{Float}
 use Rattle.voice.specs.Lists.{upTo, steps, joinTo}
-use Rattle.voice.specs.Input.{Gains, frequencyAt, gainsAt, cleaned}
+use Rattle.voice.specs.Input.{Call, frequencyAt, gainsAt, cleaned}
 use Rattle.player.specs.Sound.{moved, sound}
-use Rattle.voice.specs.declared.input.Input.{Input}
 use Rattle.voice.specs.declared.voice.State.{State}
 use Rattle.voice.specs.declared.voice.Voice.{Voice}
 
@@ -17,9 +16,9 @@ stateAt v freq i = steps (λ t s. moved v (cleaned (freq t)) s) (v .state) i
 unfoldable pub channelOut : Voice → (ℕ → Float) → (ℕ → List Float) → ℕ → List Float
 channelOut v freq g n = upTo (λ i. sound v (stateAt v freq i) (cleaned (freq i)) (g i)) n
 
-unfoldable pub blockOut : Voice → ℕ → Input → List Float → Gains → ℕ → List Float
-blockOut v n freq fs g channels = joinTo (λ ch. channelOut v (frequencyAt freq fs n ch) (gainsAt g n ch) n) channels
+unfoldable pub blockOut : Voice → Call → List Float
+blockOut v c = joinTo (λ ch. channelOut v (frequencyAt c ch) (gainsAt c ch) (c .shape .samples)) (c .shape .channels)
 
 -- only channel 0's end is kept
-abbrev pub blockEnd : Voice → ℕ → Input → List Float → State
-blockEnd v n freq fs = stateAt v (frequencyAt freq fs n 0) n
+abbrev pub blockEnd : Voice → Call → State
+blockEnd v c = stateAt v (frequencyAt c 0) (c .shape .samples)

@@ -9,7 +9,8 @@ use lib.Ieee.{Float, nan, fin, ne}
 use Rattle.wire.specs.Parse.{pick}
 use Rattle.float.specs.F32.{_⊕_, _⊗_, nearest}
 use Rattle.filters.specs.Biquad.{tickOf}
-use Rattle.voice.specs.Voice.{noState, noCoeffs}
+use Rattle.voice.specs.Lists.{steps}
+use Rattle.voice.specs.Voice.{bandAt, memoryAt, withMemory}
 use Rattle.filters.specs.declared.biquad.BiquadCoeffs.{BiquadCoeffs}
 use Rattle.filters.specs.declared.biquad.BiquadState.{BiquadState}
 
@@ -30,12 +31,16 @@ coeffsOfRows cs l = record {
   a2 = getD cs (128 + l) nan;
 }
 
--- the columns hold the live bands' memories, and the rows their coefficients
-pub record Memories (z1 z2 : List Float) (ms : List BiquadState) (live : List ℕ) (n : ℕ) : Type 0 where
-  pub at : (l : ℕ) → l < n → getD ms (getD live l 0) noState ≡ stateOfColumns z1 z2 l
+-- the columns hold the live bands' memories, which lie in ms, and the rows their coefficients, which lie in a voice's lists
+pub record Memories (z1 z2 ms : List Float) (live : List ℕ) (n : ℕ) : Type 0 where
+  pub at : (l : ℕ) → l < n → memoryAt ms (getD live l 0) ≡ stateOfColumns z1 z2 l
 
-pub record Coeffs (cs : List Float) (bs : List BiquadCoeffs) (live : List ℕ) (n : ℕ) : Type 0 where
-  pub at : (l : ℕ) → l < n → getD bs (getD live l 0) noCoeffs ≡ coeffsOfRows cs l
+pub record Coeffs (cs lists : List Float) (live : List ℕ) (n : ℕ) : Type 0 where
+  pub at : (l : ℕ) → l < n → bandAt lists (getD live l 0) ≡ coeffsOfRows cs l
+
+-- the memories with those of the first n live bands put back from the columns
+abbrev pub scattered : List ℕ → List Float → List Float → List Float → ℕ → List Float
+scattered live z1 z2 ms n = steps (λ l ms. withMemory ms (getD live l 0) (stateOfColumns z1 z2 l)) ms n
 
 -- one sample x of n filters: the columns ys, w1, w2 hold what `tick` answers for the memories z1, z2
 pub record Ticked (ys w1 w2 z1 z2 cs : List Float) (x : Float) (n : ℕ) : Type 0 where

@@ -1,18 +1,50 @@
 -- A channel in two passes: the partials of all its samples first, and then what the live bands add to each.
 -- Cited by private functions only: a sample's sum has the same order in both, and the state's parts move each by themselves.
-use Prim.Native.Nat.{ℕ}
+use Prim.Native.Nat.{ℕ, _≤_}
+use mathlib.Core.Path.{_≡_}
+use mathlib.Core.Bool.{true}
 use mathlib.Core.List.{List, []}
-use lib.ListN.{getD, replicate}
+use lib.ListN.{getD}
 use lib.Ieee.{Float, nan}
-use Rattle.float.specs.F32.{nearest}
-use Rattle.voice.specs.Lists.{upTo, steps}
-use Rattle.voice.specs.Input.{cleaned}
-use Rattle.voice.specs.Parts.{voiceOf, stateOf}
-use Rattle.player.specs.Sound.{Mix, movedPhases, movedMemories, movedRng, partialSum, mixed, noiseIn}
-use Rattle.filters.specs.declared.biquad.BiquadState.{BiquadState}
+use Rattle.filters.specs.Rate.{Rate}
+use Rattle.voice.specs.Lists.{upTo, steps, every}
+use Rattle.voice.specs.Input.{Call, inputsOk, frequenciesOk, frequencyOf, frequencyOk, cleaned}
+use Rattle.voice.specs.Voice.{listAt, pitchOk, stretchOk, phasesOk, bandsAscend, voiceOf, stateOf}
+use Rattle.player.specs.Sound.{movedPhases, movedMemories, movedRng, partialSum, noiseSum}
+use Rattle.player.specs.Block.{stateAt, channelOut, blockOut, blockEnd}
+use Rattle.player.specs.Columns.{LiveIn}
 use Rattle.filters.specs.declared.rng.Rng.{Rng}
 use Rattle.voice.specs.declared.voice.Setting.{Setting}
 use Rattle.voice.specs.declared.voice.Voice.{Voice}
+
+-- ---- what of the voice rules playing needs
+-- of the entries, so that every frequency can be looked up and gives steps that a phase can gain
+pub record EntriesFit (s : Setting) (lists : List Float) : Type 0 where
+  pub sizes : (s .count ≤ 16) × (s .m ≤ 32) × (s .k ≤ 4)
+  pub pitches-ok : every (λ i. pitchOk (getD (listAt lists 0) i nan)) (s .count) ≡ true
+  pub stretches-ok : every (λ i. stretchOk (getD (listAt lists 1) i nan)) (s .count) ≡ true
+  pub rate : Rate (s .«sample_rate»)
+
+-- of the live bands: each is one of 16, and none comes twice
+pub record LiveFit (s : Setting) : Type 0 where
+  pub most : s .«live_count» ≤ 16
+  pub inside : LiveIn (s .live) (s .«live_count»)
+  pub ascend : bandsAscend (s .live) (s .«live_count») ≡ true
+
+-- of a channel's frequencies: question 16 is answered yes for each
+abbrev pub FrequenciesFit : List Float → Type 0
+FrequenciesFit fs = (i : ℕ) → frequencyOk (frequencyOf fs i) ≡ true
+
+-- all that a channel or a block needs of the voice
+pub record VoiceFits (s : Setting) (lists phases : List Float) : Type 0 where
+  pub entries : EntriesFit s lists
+  pub live-bands : LiveFit s
+  pub phases-ok : phasesOk phases (s .m) ≡ true
+
+-- of a call: its inputs are as long as its block, and question 16 is answered yes
+pub record CallFits (c : Call) : Type 0 where
+  pub inputs : inputsOk c ≡ true
+  pub frequencies : frequenciesOk (c .shape .freq) (c .freq) ≡ true
 
 -- ---- before sample i
 unfoldable pub phasesAt : Voice → (ℕ → Float) → ℕ → List Float
@@ -21,29 +53,42 @@ phasesAt v freq i = steps (λ t ps. movedPhases v (cleaned (freq t)) ps) (v .sta
 unfoldable pub rngAt : Voice → ℕ → Rng
 rngAt v i = steps (λ t r. movedRng v r) (v .state .rng) i
 
-unfoldable pub memoriesBefore : Voice → ℕ → List BiquadState
-memoriesBefore v i = steps (λ t ms. movedMemories v (rngAt v t) ms) (v .state .memories) i
+unfoldable pub memoriesAt : Voice → ℕ → List Float
+memoriesAt v i = steps (λ t ms. movedMemories v (rngAt v t) ms) (v .state .memories) i
 
 -- ---- n samples
-unfoldable pub tonesOut : Voice → (ℕ → Float) → (ℕ → List Float) → ℕ → List Float
-tonesOut v freq g n = upTo (λ i. partialSum v (cleaned (freq i)) (g i) (phasesAt v freq i)) n
+unfoldable pub partialsOut : Voice → (ℕ → Float) → (ℕ → List Float) → ℕ → List Float
+partialsOut v freq g n = upTo (λ i. partialSum v (cleaned (freq i)) (g i) (phasesAt v freq i)) n
 
 -- sample i with what the live bands add to y
 unfoldable pub noisy : Voice → (ℕ → Float) → (ℕ → List Float) → ℕ → Float → Float
-noisy v freq g i y = mixed v (cleaned (freq i)) (g i) (noiseIn (rngAt v i)) (record { memories = memoriesBefore v i; sample = y }) (v .«live_count») .sample
+noisy v freq g i y = noiseSum v (cleaned (freq i)) (g i) (rngAt v i) (memoriesAt v i) y
 
-unfoldable pub noisesOut : Voice → (ℕ → Float) → (ℕ → List Float) → List Float → ℕ → List Float
-noisesOut v freq g ys n = upTo (λ i. noisy v freq g i (getD ys i nan)) n
+unfoldable pub noiseOut : Voice → (ℕ → Float) → (ℕ → List Float) → List Float → ℕ → List Float
+noiseOut v freq g ys n = upTo (λ i. noisy v freq g i (getD ys i nan)) n
 
--- ---- a voice of only the lists that a pass reads
--- the partials: no band is live
-abbrev pub toneVoice : Setting → List Float → List Float → List Float → List Float → List Float → Voice
-toneVoice set pitches stretches mainlobes partials phases =
-    voiceOf (record { blend = set .blend; channel = set .channel; count = set .count; k = set .k; m = set .m; j = 0; «live_count» = 0; «sample_rate» = set .«sample_rate» })
-    [] pitches stretches mainlobes [] partials [] [] [] (stateOf phases [] (record { state = 0 }))
+-- ---- a voice of only what a pass reads
+abbrev pub partialsVoice : Setting → List Float → List Float → List Float → Voice
+partialsVoice s lists partials phases = voiceOf s lists partials [] (stateOf phases [] (record { state = 0 }))
 
--- the bands: there are no phases, and every stretch is 1
-abbrev pub noiseVoice : Setting → List ℕ → List Float → List Float → List Float → List Float → List Float → List Float → Rng → Voice
-noiseVoice set live pitches noiseGains noise bands compensation memories rng =
-    voiceOf (record { blend = set .blend; channel = set .channel; count = set .count; k = set .k; m = 0; j = set .j; «live_count» = set .«live_count»; «sample_rate» = set .«sample_rate» })
-    live pitches (replicate 16 (nearest 1 1)) [] noiseGains [] noise bands compensation (stateOf [] memories rng)
+abbrev pub noiseVoice : Setting → List Float → List Float → List Float → Rng → Voice
+noiseVoice s lists noise memories rng = voiceOf s lists [] noise (stateOf [] memories rng)
+
+-- ---- what a pass and a channel promise, by their frequencies, gains and number of samples: the state that they leave, and the samples
+pub record PartialsPlayed (v : Voice) (freq : ℕ → Float) (g : ℕ → List Float) (n : ℕ) (phases out : List Float) : Type 0 where
+  pub moves : phases ≡ phasesAt v freq n
+  pub written : out ≡ partialsOut v freq g n
+
+-- `ys` are the samples before the pass
+pub record NoisePlayed (v : Voice) (freq : ℕ → Float) (g : ℕ → List Float) (ys : List Float) (n : ℕ) (rng : Rng) (memories out : List Float) : Type 0 where
+  pub steps-on : rng ≡ rngAt v n
+  pub rings : memories ≡ memoriesAt v n
+  pub written : out ≡ noiseOut v freq g ys n
+
+pub record ChannelPlayed (v : Voice) (freq : ℕ → Float) (g : ℕ → List Float) (n : ℕ) (rng : Rng) (phases memories out : List Float) : Type 0 where
+  pub ends : stateOf phases memories rng ≡ stateAt v freq n
+  pub written : out ≡ channelOut v freq g n
+
+pub record BlockPlayed (v : Voice) (c : Call) (rng : Rng) (phases memories out : List Float) : Type 0 where
+  pub ends : stateOf phases memories rng ≡ blockEnd v c
+  pub written : out ≡ blockOut v c

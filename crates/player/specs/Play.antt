@@ -1,26 +1,42 @@
 -- Playing, after questions 13 to 16 in their order. A refusal returns the voice as given and writes no sample.
 use Prim.Native.Nat.{ℕ}
+use mathlib.Core.Path.{_≡_}
 use mathlib.Core.List.{List}
 use lib.ListN.{length}
 use lib.Ieee.{Float}
-use Rattle.voice.specs.Input.{Gains}
-use Rattle.voice.specs.Question.{playQuestion, accepted, Outcome}
+use Rattle.voice.specs.Input.{Call}
+use Rattle.voice.specs.Question.{playQuestion, accepted, Outcome, outcomeOf}
 use Rattle.voice.specs.Voice.{withState}
 use Rattle.player.specs.Block.{blockOut, blockEnd}
-use Rattle.voice.specs.declared.input.Input.{Input}
-use Rattle.player.specs.declared.playing.Lent.{Lent}
+use Rattle.player.specs.declared.playing.Moved.{Moved}
+use Rattle.voice.specs.declared.answer.Played.{Played}
 use Rattle.voice.specs.declared.voice.Voice.{Voice}
 
--- the answer of a voice whose lists are lent: the noise number is all that is not written where it lies
-abbrev pub lentOf : Outcome → Lent
-lentOf o = record { number = o .number; rng = o .voice .state .rng }
-
--- the number of the first question answered no, or 0, and the voice: at the end of channel 0 where the play is accepted, else as given
-unfoldable pub played : Voice → ℕ → Input → List Float → Gains → ℕ → ℕ → Outcome
-played v n freq fs g channels len =
-    let q = playQuestion v n freq fs g channels len in
-    record { number = q; voice = accepted q (withState v (blockEnd v n freq fs)) v }
+-- the number of the first question answered no, or 0, and the voice: at the end of channel 0 where the play is accepted, else as given.
+-- `len` is the length of the output slice.
+unfoldable pub played : Voice → Call → ℕ → Outcome
+played v c len =
+    let q = playQuestion v c len in
+    record { number = q; voice = accepted q (withState v (blockEnd v c)) v }
 
 -- every sample of the output slice at exit
-unfoldable pub playedOut : Voice → ℕ → Input → List Float → Gains → ℕ → List Float → List Float
-playedOut v n freq fs g channels out = accepted (playQuestion v n freq fs g channels (length out)) (blockOut v n freq fs g channels) out
+unfoldable pub playedOut : Voice → Call → List Float → List Float
+playedOut v c out = accepted (playQuestion v c (length out)) (blockOut v c) out
+
+-- what a play promises, where `out` is the output at the call and `out′` at the return:
+-- of a voice by value
+pub record Plays (v : Voice) (c : Call) (out : List Float) (p : Played) (out′ : List Float) : Type 0 where
+  pub answered : outcomeOf p ≡ played v c (length out)
+  pub written : out′ ≡ playedOut v c out
+
+-- of a voice whose lists are lent: the number, and the running state after the call
+pub record PlaysParts (v : Voice) (c : Call) (out : List Float) (m : Moved) (out′ : List Float) : Type 0 where
+  pub answered : m .number ≡ played v c (length out) .number
+  pub moves : m .state ≡ played v c (length out) .voice .state
+  pub written : out′ ≡ playedOut v c out
+
+-- of a voice where it lies, which is `v` at the call and `v′` at the return
+pub record PlaysIn (v : Voice) (c : Call) (out : List Float) (number : ℕ) (v′ : Voice) (out′ : List Float) : Type 0 where
+  pub answered : number ≡ played v c (length out) .number
+  pub moves : v′ ≡ played v c (length out) .voice
+  pub written : out′ ≡ playedOut v c out

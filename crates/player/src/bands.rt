@@ -1,22 +1,21 @@
 // The live bands of a voice as columns: place l belongs to live band l, that is to band `live[l]`.
 ghost use mathlib.Core.Path.{_≡_};
 ghost use Prim.Native.Nat.{_≤_, _<_, _+_, _*_};
-ghost use lib.ListN.{length, getD, set};
+ghost use lib.ListN.{getD};
 ghost use lib.Ieee.{nan};
-ghost use Rattle.voice.specs.Lists.{Filled, FilledRows, steps};
-ghost use Rattle.voice.specs.Parts.{memoriesOf, coeffsOf};
-ghost use Rattle.player.specs.Columns.{LiveIn, stateOfColumns, Memories, Coeffs, Ticked};
+ghost use Rattle.voice.specs.Lists.{Filled, FilledRows};
+ghost use Rattle.player.specs.Columns.{LiveIn, Memories, Coeffs, Ticked, scattered};
 
 // The memories of the live bands.
-pub fn gather_memories<'a>(
+pub fn gather_memories(
     z1: &mut [f32; 32],
     z2: &mut [f32; 32],
-    memories: &'a [f32],
-    live: &'a [usize; 16],
+    memories: &[f32; 32],
+    live: &[usize; 16],
     n: usize,
 )
-    requires { ⌜ (n ≤ 16) × (length (now memories) ≡ 32) × LiveIn (now live) n ⌝ }
-    ensures { λ r. ⌜ Memories (now (z1 .exit)) (now (z2 .exit)) (memoriesOf (now (memories .entry))) (now (live .entry)) n ⌝ }
+    requires { ⌜ (n ≤ 16) × LiveIn (now live) n ⌝ }
+    ensures { λ r. ⌜ Memories (now (z1 .exit)) (now (z2 .exit)) (now (memories .entry)) (now (live .entry)) n ⌝ }
 {
     let s1 = &mut z1[..];
     let s2 = &mut z2[..];
@@ -30,48 +29,48 @@ pub fn gather_memories<'a>(
 }
 
 // Row q, after the q rows before it: their coefficient q, in the order b0, b1, b2, a1, a2.
-fn gather_row<'a>(
+fn gather_row(
     coeffs: &mut [f32; 160],
-    bands: &'a [f32; 80],
-    live: &'a [usize; 16],
+    lists: &[f32; 160],
+    live: &[usize; 16],
     q: usize,
     n: usize,
 )
-    requires { ⌜ (q < 5) × (n ≤ 16) × LiveIn (now live) n × FilledRows (now coeffs) (λ q l. getD (now bands) (getD (now live) l 0 * 5 + q) nan) q n ⌝ }
-    ensures { λ r. ⌜ FilledRows (now (coeffs .exit)) (λ q l. getD (now (bands .entry)) (getD (now (live .entry)) l 0 * 5 + q) nan) (q + 1) n ⌝ }
+    requires { ⌜ (q < 5) × (n ≤ 16) × LiveIn (now live) n × FilledRows (now coeffs) (λ q l. getD (now lists) (64 + getD (now live) l 0 * 5 + q) nan) q n ⌝ }
+    ensures { λ r. ⌜ FilledRows (now (coeffs .exit)) (λ q l. getD (now (lists .entry)) (64 + getD (now (live .entry)) l 0 * 5 + q) nan) (q + 1) n ⌝ }
 {
     let places = &mut coeffs[..];
     let mut l = 0;
     while l < n {
-        let from = live[l] * 5 + q;
+        let from = 64 + live[l] * 5 + q;
         let to = q * 32 + l;
-        places[to] = bands[from];
+        places[to] = lists[from];
         l += 1;
     }
 }
 
 // Their coefficients, in five rows.
-pub fn gather_coeffs<'a>(
+pub fn gather_coeffs(
     coeffs: &mut [f32; 160],
-    bands: &'a [f32; 80],
-    live: &'a [usize; 16],
+    lists: &[f32; 160],
+    live: &[usize; 16],
     n: usize,
 )
     requires { ⌜ (n ≤ 16) × LiveIn (now live) n ⌝ }
-    ensures { λ r. ⌜ Coeffs (now (coeffs .exit)) (coeffsOf (now (bands .entry))) (now (live .entry)) n ⌝ }
+    ensures { λ r. ⌜ Coeffs (now (coeffs .exit)) (now (lists .entry)) (now (live .entry)) n ⌝ }
 {
     let mut q = 0;
     while q < 5 {
-        gather_row(coeffs, bands, live, q, n);
+        gather_row(coeffs, lists, live, q, n);
         q += 1;
     }
 }
 
 // Their compensations.
-pub fn gather_makeup<'a>(
+pub fn gather_makeup(
     makeup: &mut [f32; 32],
-    compensation: &'a [f32; 16],
-    live: &'a [usize; 16],
+    compensation: &[f32; 16],
+    live: &[usize; 16],
     n: usize,
 )
     requires { ⌜ (n ≤ 16) × LiveIn (now live) n ⌝ }
@@ -112,21 +111,22 @@ pub fn tick_bands(
 }
 
 // The columns back into the memories of the live bands.
-pub fn scatter_memories<'a>(
-    memories: &mut [f32],
-    live: &'a [usize; 16],
-    z1: &'a [f32; 32],
-    z2: &'a [f32; 32],
+pub fn scatter_memories(
+    memories: &mut [f32; 32],
+    live: &[usize; 16],
+    z1: &[f32; 32],
+    z2: &[f32; 32],
     n: usize,
 )
-    requires { ⌜ (n ≤ 16) × (length (now memories) ≡ 32) × LiveIn (now live) n ⌝ }
-    ensures { λ r. ⌜ (memoriesOf (now (memories .exit)) ≡ steps (λ l ms. set ms (getD (now (live .entry)) l 0) (stateOfColumns (now (z1 .entry)) (now (z2 .entry)) l)) (memoriesOf (now (memories .entry))) n) × (length (now (memories .exit)) ≡ 32) ⌝ }
+    requires { ⌜ (n ≤ 16) × LiveIn (now live) n ⌝ }
+    ensures { λ r. ⌜ now (memories .exit) ≡ scattered (now (live .entry)) (now (z1 .entry)) (now (z2 .entry)) (now (memories .entry)) n ⌝ }
 {
+    let s = &mut memories[..];
     let mut l = 0;
     while l < n {
         let at = live[l] * 2;
-        memories[at] = z1[l];
-        memories[at + 1] = z2[l];
+        s[at] = z1[l];
+        s[at + 1] = z2[l];
         l += 1;
     }
 }

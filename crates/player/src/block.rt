@@ -1,126 +1,118 @@
 // A block: channel after channel, each from the state that the block starts from. Channel 0 comes last, in the lent state itself: its end is kept.
 ghost use mathlib.Core.Path.{_≡_};
-ghost use mathlib.Core.Bool.{true};
 ghost use Prim.Native.Nat.{_≤_, _*_};
 ghost use lib.ListN.{length};
-ghost use Rattle.voice.specs.Input.{InputFits, frequenciesOk, gains};
-ghost use Rattle.voice.specs.Voice.{keepsRules};
-ghost use Rattle.voice.specs.Parts.{voiceOf, stateOf, memoriesOf};
-ghost use Rattle.player.specs.Block.{blockOut, blockEnd};
+ghost use Rattle.voice.specs.Input.{call, frequencyAt, gainsAt};
+ghost use Rattle.voice.specs.Voice.{voiceOf, stateOf};
+ghost use Rattle.player.specs.Passes.{VoiceFits, CallFits, ChannelPlayed, BlockPlayed};
 use crate::channel::channel_of;
+use crate::input::part_of;
 use filters::Rng;
-use voice::Input;
 use voice::Setting;
+use voice::Shape;
 
-// A column by itself.
-fn copied(xs: &[f32]) -> [f32; 32]
-    requires { ⌜ length (now xs) ≡ 32 ⌝ }
-    ensures { λ r. ⌜ r ≡ now (xs .entry) ⌝ }
-{
-    let mut r: [f32; 32] = [0.0; 32];
-    let mut i = 0;
-    while i < 32 {
-        r[i] = xs[i];
-        i += 1;
-    }
-    r
+// Which channel of the block is played, and the noise number that it starts from.
+struct ChannelStart {
+    ch: usize,
+    rng: Rng,
 }
 
-pub fn block_of<'a>(
+// The inputs are resolved to the parts that the channel reads, once for all its samples.
+fn channel_at(
     set: Setting,
-    live: &'a [usize; 16],
-    f0_hz: &'a [f32; 16],
-    stretch: &'a [f32; 16],
-    mainlobe_gain: &'a [f32; 16],
-    noise_gain: &'a [f32; 16],
-    partials: &'a [f32; 2048],
-    noise: &'a [f32; 1024],
-    bands: &'a [f32; 80],
-    compensation: &'a [f32; 16],
+    lists: &[f32; 160],
+    partials: &[f32; 2048],
+    noise: &[f32; 1024],
     phases: &mut [f32; 32],
-    memories: &mut [f32],
-    rng: Rng,
-    samples: usize,
-    freq: Input,
-    freq_s: &[f32],
-    g0: Input,
-    g0_s: &[f32],
-    g1: Input,
-    g1_s: &[f32],
-    g2: Input,
-    g2_s: &[f32],
-    g3: Input,
-    g3_s: &[f32],
-    channels: usize,
+    memories: &mut [f32; 32],
+    start: ChannelStart,
+    b: Shape,
+    freq: &[f32],
+    g0: &[f32],
+    g1: &[f32],
+    g2: &[f32],
+    g3: &[f32],
     out: &mut [f32],
 ) -> Rng
-    requires { ⌜ (keepsRules (voiceOf set (now live) (now «f0_hz») (now stretch) (now «mainlobe_gain») (now «noise_gain») (now partials) (now noise) (now bands) (now compensation) (stateOf (now phases) (now memories) rng)) ≡ true) × (length (now memories) ≡ 32) × (samples ≤ 128) × (1 ≤ channels) × (channels ≤ 8) × (length (now out) ≡ channels * samples) × (frequenciesOk freq (now «freq_s») ≡ true) ⌝ }
-    requires { ⌜ (InputFits freq samples (length (now «freq_s»))) × (InputFits g0 samples (length (now «g0_s»))) × (InputFits g1 samples (length (now «g1_s»))) × (InputFits g2 samples (length (now «g2_s»))) × (InputFits g3 samples (length (now «g3_s»))) ⌝ }
-    ensures { λ r. ⌜ (r ≡ blockEnd (voiceOf set (now (live .entry)) (now («f0_hz» .entry)) (now (stretch .entry)) (now («mainlobe_gain» .entry)) (now («noise_gain» .entry)) (now (partials .entry)) (now (noise .entry)) (now (bands .entry)) (now (compensation .entry)) (stateOf (now (phases .entry)) (now (memories .entry)) rng)) samples freq (now («freq_s» .entry)) .rng) × (now (phases .exit) ≡ blockEnd (voiceOf set (now (live .entry)) (now («f0_hz» .entry)) (now (stretch .entry)) (now («mainlobe_gain» .entry)) (now («noise_gain» .entry)) (now (partials .entry)) (now (noise .entry)) (now (bands .entry)) (now (compensation .entry)) (stateOf (now (phases .entry)) (now (memories .entry)) rng)) samples freq (now («freq_s» .entry)) .phases) × (memoriesOf (now (memories .exit)) ≡ blockEnd (voiceOf set (now (live .entry)) (now («f0_hz» .entry)) (now (stretch .entry)) (now («mainlobe_gain» .entry)) (now («noise_gain» .entry)) (now (partials .entry)) (now (noise .entry)) (now (bands .entry)) (now (compensation .entry)) (stateOf (now (phases .entry)) (now (memories .entry)) rng)) samples freq (now («freq_s» .entry)) .memories) × (length (now (memories .exit)) ≡ 32) ⌝ }
-    ensures { λ r. ⌜ now (out .exit) ≡ blockOut (voiceOf set (now (live .entry)) (now («f0_hz» .entry)) (now (stretch .entry)) (now («mainlobe_gain» .entry)) (now («noise_gain» .entry)) (now (partials .entry)) (now (noise .entry)) (now (bands .entry)) (now (compensation .entry)) (stateOf (now (phases .entry)) (now (memories .entry)) rng)) samples freq (now («freq_s» .entry)) (gains g0 (now («g0_s» .entry)) g1 (now («g1_s» .entry)) g2 (now («g2_s» .entry)) g3 (now («g3_s» .entry))) channels ⌝ }
+    requires { ⌜ VoiceFits set (now lists) (now phases)
+        × CallFits (call b (now freq) (now g0) (now g1) (now g2) (now g3)) × (length (now out) ≡ b .samples) ⌝ }
+    ensures { λ r. ⌜ ChannelPlayed
+        (voiceOf set (now (lists .entry)) (now (partials .entry)) (now (noise .entry)) (stateOf (now (phases .entry)) (now (memories .entry)) (start .rng)))
+        (frequencyAt (call b (now (freq .entry)) (now (g0 .entry)) (now (g1 .entry)) (now (g2 .entry)) (now (g3 .entry))) (start .ch))
+        (gainsAt (call b (now (freq .entry)) (now (g0 .entry)) (now (g1 .entry)) (now (g2 .entry)) (now (g3 .entry))) (start .ch))
+        (b .samples) r (now (phases .exit)) (now (memories .exit)) (now (out .exit)) ⌝ }
 {
-    let mut c = 1;
-    while c < channels {
-        let at = c * samples;
+    let f = part_of(b.freq, freq, b.samples, start.ch);
+    let p0 = part_of(b.g0, g0, b.samples, start.ch);
+    let p1 = part_of(b.g1, g1, b.samples, start.ch);
+    let p2 = part_of(b.g2, g2, b.samples, start.ch);
+    let p3 = part_of(b.g3, g3, b.samples, start.ch);
+    let rng = start.rng;
+    channel_of(set, lists, partials, noise, phases, memories, rng, f, p0, p1, p2, p3, out)
+}
+
+pub fn block_of(
+    set: Setting,
+    lists: &[f32; 160],
+    partials: &[f32; 2048],
+    noise: &[f32; 1024],
+    phases: &mut [f32; 32],
+    memories: &mut [f32; 32],
+    rng: Rng,
+    b: Shape,
+    freq: &[f32],
+    g0: &[f32],
+    g1: &[f32],
+    g2: &[f32],
+    g3: &[f32],
+    out: &mut [f32],
+) -> Rng
+    requires { ⌜ VoiceFits set (now lists) (now phases) × CallFits (call b (now freq) (now g0) (now g1) (now g2) (now g3))
+        × (b .samples ≤ 128) × (1 ≤ b .channels) × (b .channels ≤ 8) × (length (now out) ≡ b .channels * b .samples) ⌝ }
+    ensures { λ r. ⌜ BlockPlayed
+        (voiceOf set (now (lists .entry)) (now (partials .entry)) (now (noise .entry)) (stateOf (now (phases .entry)) (now (memories .entry)) rng))
+        (call b (now (freq .entry)) (now (g0 .entry)) (now (g1 .entry)) (now (g2 .entry)) (now (g3 .entry)))
+        r (now (phases .exit)) (now (memories .exit)) (now (out .exit)) ⌝ }
+{
+    let samples = b.samples;
+    let mut ch = 1;
+    while ch < b.channels {
+        let at = ch * samples;
         let to = at + samples;
-        let mut own_phases = copied(phases);
-        let mut own_memories = copied(memories);
-        channel_of(
+        let mut own_phases = *phases;
+        let mut own_memories = *memories;
+        channel_at(
             set,
-            live,
-            f0_hz,
-            stretch,
-            mainlobe_gain,
-            noise_gain,
+            lists,
             partials,
             noise,
-            bands,
-            compensation,
             &mut own_phases,
             &mut own_memories,
-            rng,
-            samples,
+            ChannelStart { ch, rng },
+            b,
             freq,
-            freq_s,
             g0,
-            g0_s,
             g1,
-            g1_s,
             g2,
-            g2_s,
             g3,
-            g3_s,
-            c,
             &mut out[at..to],
         );
-        c += 1;
+        ch += 1;
     }
-    channel_of(
+    channel_at(
         set,
-        live,
-        f0_hz,
-        stretch,
-        mainlobe_gain,
-        noise_gain,
+        lists,
         partials,
         noise,
-        bands,
-        compensation,
         phases,
         memories,
-        rng,
-        samples,
+        ChannelStart { ch: 0, rng },
+        b,
         freq,
-        freq_s,
         g0,
-        g0_s,
         g1,
-        g1_s,
         g2,
-        g2_s,
         g3,
-        g3_s,
-        0,
         &mut out[..samples],
     )
 }

@@ -3,9 +3,9 @@ ghost use mathlib.Core.Path.{_≡_};
 ghost use mathlib.Core.Bool.{true};
 ghost use Prim.Native.Nat.{_≤_, _+_};
 ghost use lib.ListN.{length, getD};
-ghost use Rattle.voice.specs.Input.{InputFits, frequenciesOk, frequencyAt, gains, gainsAt};
-ghost use Rattle.voice.specs.Voice.{keepsRules, phasesOk};
-ghost use Rattle.player.specs.Passes.{toneVoice, phasesAt, tonesOut};
+ghost use Rattle.voice.specs.Input.{frequencyOf, gainsOf};
+ghost use Rattle.voice.specs.Voice.{phasesOk};
+ghost use Rattle.player.specs.Passes.{EntriesFit, FrequenciesFit, PartialsPlayed, partialsVoice};
 ghost use lib.Dec.{eqb};
 ghost use lib.Ieee.{nan};
 ghost use Rattle.wire.specs.Parse.{pick};
@@ -20,16 +20,17 @@ ghost use Rattle.player.specs.Sound.{addSingle, addBlend, blendCoeff, pa
 use crate::fixed::Fixed;
 use crate::fixed::fixed_of;
 use crate::input::frequency_at;
-use crate::input::gain_starts;
-use crate::input::gains_heard;
-use crate::input::start_of;
+use crate::input::gains_for;
 use crate::partials::partials_single;
 use crate::partials_blend::partials_blend;
 use crate::pitch::Pitch;
 use crate::pitch::no_pitch;
 use crate::pitch::pitch_kept;
-use voice::Input;
+use voice::MAINLOBE_GAINS;
+use voice::PITCHES;
+use voice::STRETCHES;
 use voice::Setting;
+use voice::list_of;
 use wave_table::table;
 
 // The sum of the partials of one sample.
@@ -79,67 +80,34 @@ fn tone_of<'a>(
     }
 }
 
-pub fn few_tones<'a>(
+pub fn few_tones(
     set: Setting,
-    f0_hz: &'a [f32; 16],
-    stretch: &'a [f32; 16],
-    mainlobe_gain: &'a [f32; 16],
-    partials: &'a [f32; 2048],
+    lists: &[f32; 160],
+    partials: &[f32; 2048],
     phases: &mut [f32; 32],
-    samples: usize,
-    freq: Input,
-    freq_s: &[f32],
-    g0: Input,
-    g0_s: &[f32],
-    g1: Input,
-    g1_s: &[f32],
-    g2: Input,
-    g2_s: &[f32],
-    g3: Input,
-    g3_s: &[f32],
-    ch: usize,
+    freq: &[f32],
+    g0: &[f32],
+    g1: &[f32],
+    g2: &[f32],
+    g3: &[f32],
     out: &mut [f32],
 )
-    requires { ⌜ (keepsRules (toneVoice set (now «f0_hz») (now stretch) (now «mainlobe_gain») (now partials) (now phases)) ≡ true) × (1 ≤ set .count) × (length (now out) ≡ samples) × (samples ≤ 128) × (frequenciesOk freq (now «freq_s») ≡ true) ⌝ }
-    requires { ⌜ (InputFits freq samples (length (now «freq_s»))) × (InputFits g0 samples (length (now «g0_s»))) × (InputFits g1 samples (length (now «g1_s»))) × (InputFits g2 samples (length (now «g2_s»))) × (InputFits g3 samples (length (now «g3_s»))) ⌝ }
-    ensures { λ r. ⌜ now (phases .exit) ≡ phasesAt (toneVoice set (now («f0_hz» .entry)) (now (stretch .entry)) (now («mainlobe_gain» .entry)) (now (partials .entry)) (now (phases .entry))) (frequencyAt freq (now («freq_s» .entry)) samples ch) samples ⌝ }
-    ensures { λ r. ⌜ now (out .exit) ≡ tonesOut (toneVoice set (now («f0_hz» .entry)) (now (stretch .entry)) (now («mainlobe_gain» .entry)) (now (partials .entry)) (now (phases .entry))) (frequencyAt freq (now («freq_s» .entry)) samples ch) (gainsAt (gains g0 (now («g0_s» .entry)) g1 (now («g1_s» .entry)) g2 (now («g2_s» .entry)) g3 (now («g3_s» .entry))) samples ch) samples ⌝ }
+    requires { ⌜ EntriesFit set (now lists) × (phasesOk (now phases) (set .m) ≡ true) × (1 ≤ set .count) × FrequenciesFit (now freq) ⌝ }
+    ensures { λ r. ⌜ PartialsPlayed (partialsVoice set (now (lists .entry)) (now (partials .entry)) (now (phases .entry)))
+        (frequencyOf (now (freq .entry))) (gainsOf (now (g0 .entry)) (now (g1 .entry)) (now (g2 .entry)) (now (g3 .entry)))
+        (length (now (out .entry))) (now (phases .exit)) (now (out .exit)) ⌝ }
 {
+    let f0_hz = list_of(lists, PITCHES);
+    let stretch = list_of(lists, STRETCHES);
+    let mainlobe_gain = list_of(lists, MAINLOBE_GAINS);
     let wave = table();
     let v = fixed_of(set.blend, set.k, set.m, set.sample_rate);
-    let at = start_of(freq, freq_s.len(), samples, ch);
-    let gains_from = gain_starts(
-        g0,
-        g0_s.len(),
-        g1,
-        g1_s.len(),
-        g2,
-        g2_s.len(),
-        g3,
-        g3_s.len(),
-        samples,
-        ch,
-    );
     let mut p = no_pitch();
     let mut i = 0;
-    while i < samples {
-        let f0 = frequency_at(freq, freq_s, samples, ch, at, i);
-        let g = gains_heard(
-            set.blend,
-            g0,
-            g0_s,
-            g1,
-            g1_s,
-            g2,
-            g2_s,
-            g3,
-            g3_s,
-            samples,
-            ch,
-            gains_from,
-            i,
-        );
-        p = pitch_kept(p, f0_hz, stretch, mainlobe_gain, set.count, f0);
+    while i < out.len() {
+        let f0 = frequency_at(freq, i);
+        let g = gains_for(set.blend, g0, g1, g2, g3, i);
+        p = pitch_kept(p, &f0_hz, &stretch, &mainlobe_gain, set.count, f0);
         out[i] = tone_of(phases, partials, &wave, &g, v, p);
         i += 1;
     }

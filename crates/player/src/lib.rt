@@ -8,7 +8,6 @@ mod fade;
 mod few;
 mod fixed;
 mod input;
-mod laid;
 mod noise;
 mod noises;
 mod partials;
@@ -24,6 +23,6 @@ mod tones;
 mod tuning;
 mod whole;
 
-pub use playing::Lent;
+pub use playing::Moved;
 pub use playing::play;
-pub use playing::play_lent;
+pub use playing::play_parts;

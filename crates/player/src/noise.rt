@@ -34,10 +34,10 @@ pub fn noise_step(live_count: usize, rng: Rng) -> Bipolar
 }
 
 // Row q, after the q rows before it: channel q's coefficients of the live bands between the two sides.
-fn noise_row<'a>(
+fn noise_row(
     rows: &mut [f32; 128],
-    noise: &'a [f32; 1024],
-    live: &'a [usize; 16],
+    noise: &[f32; 1024],
+    live: &[usize; 16],
     s: Sides,
     q: usize,
     n: usize,
@@ -58,10 +58,10 @@ fn noise_row<'a>(
 }
 
 // The rows of k channels.
-pub fn noise_rows<'a>(
+pub fn noise_rows(
     rows: &mut [f32; 128],
-    noise: &'a [f32; 1024],
-    live: &'a [usize; 16],
+    noise: &[f32; 1024],
+    live: &[usize; 16],
     s: Sides,
     k: usize,
     n: usize,

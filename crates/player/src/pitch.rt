@@ -21,10 +21,10 @@ pub struct Pitch {
     pub mainlobe: f32,
 }
 
-pub fn pitch_at<'a>(
-    f0_hz: &'a [f32; 16],
-    stretch: &'a [f32; 16],
-    mainlobe_gain: &'a [f32; 16],
+pub fn pitch_at(
+    f0_hz: &[f32; 16],
+    stretch: &[f32; 16],
+    mainlobe_gain: &[f32; 16],
     count: usize,
     f0: f32,
 ) -> Pitch
@@ -58,11 +58,11 @@ pub fn no_pitch() -> Pitch
 }
 
 // The same while the frequency stays.
-pub fn pitch_kept<'a>(
+pub fn pitch_kept(
     was: Pitch,
-    f0_hz: &'a [f32; 16],
-    stretch: &'a [f32; 16],
-    mainlobe_gain: &'a [f32; 16],
+    f0_hz: &[f32; 16],
+    stretch: &[f32; 16],
+    mainlobe_gain: &[f32; 16],
     count: usize,
     f0: f32,
 ) -> Pitch

@@ -122,7 +122,7 @@ fn rows_in(blend: u32, k: usize) -> usize
 }
 
 // The partials' columns for the frequency f0. `t` says for which they are now; `freqs` is lent to work in.
-pub fn tune<'a>(
+pub fn tune(
     t: Tuning,
     f0: f32,
     freqs: &mut [f32; 32],
@@ -131,10 +131,10 @@ pub fn tune<'a>(
     rows: &mut [f32; 128],
     x: Fixed,
     count: usize,
-    f0_hz: &'a [f32; 16],
-    stretch: &'a [f32; 16],
-    mainlobe_gain: &'a [f32; 16],
-    partials: &'a [f32; 2048],
+    f0_hz: &[f32; 16],
+    stretch: &[f32; 16],
+    mainlobe_gain: &[f32; 16],
+    partials: &[f32; 2048],
 ) -> Tuning
     requires { ⌜ (1 ≤ count) × (count ≤ 16) × (every (λ i. pitchOk (getD (now «f0_hz») i nan)) count ≡ true) × (every (λ i. stretchOk (getD (now stretch) i nan)) count ≡ true) × Within 20000 1 f0 ⌝ }
     requires { ⌜ (x .m ≤ 32) × (x .k ≤ 4) × Within 1 4096 (x .inv) ⌝ }
@@ -157,17 +157,17 @@ pub fn tune<'a>(
 }
 
 // The live bands' columns for the frequency f0.
-pub fn tune_noise<'a>(
+pub fn tune_noise(
     was: NoiseTuning,
     f0: f32,
     rows: &mut [f32; 128],
     x: Fixed,
     count: usize,
     live_count: usize,
-    f0_hz: &'a [f32; 16],
-    noise_gain: &'a [f32; 16],
-    noise: &'a [f32; 1024],
-    live: &'a [usize; 16],
+    f0_hz: &[f32; 16],
+    noise_gain: &[f32; 16],
+    noise: &[f32; 1024],
+    live: &[usize; 16],
 ) -> NoiseTuning
     requires { ⌜ (1 ≤ count) × (count ≤ 16) × (every (λ i. pitchOk (getD (now «f0_hz») i nan)) count ≡ true) × Within 20000 1 f0 ⌝ }
     requires { ⌜ (x .k ≤ 4) × («live_count» ≤ 16) × LiveIn (now live) «live_count» ⌝ }
