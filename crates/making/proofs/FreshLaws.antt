@@ -24,7 +24,7 @@ use Rattle.voice.specs.Lists.{steps, joinTo, every, padded}
 use Rattle.voice.specs.Voice.{pitchOk, stretchOk, phaseOk, pitchesAscend, bandsAscend, countsOk, entriesOk, liveOk, phasesOk, rulesOf, keepsRules, rateOk, pitches, stretches, bandAt}
 use Rattle.filters.specs.Biquad.{noiseBand}
 use Rattle.filters.specs.Band.{zeroCoeffs}
-use Rattle.making.proofs.MakeLists.{length-mapped, getD-past, list-first, list-later, joinTo-at}
+use Rattle.making.proofs.LayLaws.{length-mapped, getD-past, list-first, list-later, joinTo-at}
 use Rattle.making.specs.Making.{f32, all, sizesOk, valuesOk, keeps, insert, gathered, voiceEntries, mostChannels, channelCount, partialCoeff, isNonzero, presentFinite, mainlobeKey, noiseGainKey, reach, reachIn, phasesFor, phaseCount, isLive, liveBands, gainOf, coeffFloats, freshLists, freshVoice, Making, makeQuestion}
 use Rattle.voice.proofs.Loops.{both-true, length-joinTo}
 use Rattle.making.proofs.SortLaws.{all-insert, all-gathered, bands-few}

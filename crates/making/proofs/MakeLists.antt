@@ -1,19 +1,14 @@
 -- Laws of arrays that are filled from the front: padded lists and lists by index. Assumes nothing.
-use Prim.Native.Nat.{ℕ, zero, suc, _+_, _-_, _*_, _≤_, _<_}
+use Prim.Native.Nat.{ℕ, zero, suc, _+_, _-_, _≤_, _<_}
 use mathlib.Core.Path.{_≡_, refl, ap, sym, _∙_}
 use mathlib.Core.List.{List, [], _∷_, _++_, map, append-assoc, append-nil}
 use mathlib.Core.Bool.{Bool, true, false, _&&_}
 use native.Mathlib.Omega.{arith}
 use native.Mathlib.Numerals.{add-one}
-use native.Mathlib.Nat.{eq-or-lt-of-le}
-use mathlib.Core.Logic.{⊎-elim}
-use lib.ListN.{length, take, drop, getD, set, replicate, length-append, length-map, length-replicate, drop-of-length-le, List·getD-append}
-use lib.Seq.{drop-cons, set-at, take-suc, length-take-le, getD-append-add, drop-drop, drop-at, take-at}
-use lib.Ieee.{Float, nan}
+use lib.ListN.{length, take, drop, getD, set, replicate, length-append, length-map, drop-of-length-le}
+use lib.Seq.{drop-cons, set-at, take-suc, length-take-le}
 use Rattle.wire.specs.Parse.{pick}
-use Rattle.voice.specs.Lists.{upTo, joinTo, padded}
-use Rattle.voice.specs.Voice.{listAt}
-use Rattle.voice.proofs.Loops.{upTo-as, upTo-same, length-joinTo, row-below}
+use Rattle.voice.specs.Lists.{upTo, padded}
 use Rattle.making.specs.Live.{liveOf, addLive}
 use Rattle.making.specs.Making.{all}
 
@@ -85,49 +80,3 @@ module _ {A : Type 0} (f : A → Bool) (d : A) (l : List A) (i : ℕ) where
   pub all-drop-end : length l ≤ i → all f (drop i l) ≡ true
   unfolding all
   all-drop-end h = rw (drop-of-length-le l {i = i} h) refl
-
--- ---- lists laid one after the other
-pub length-padded : {A : Type 0} (z : A) (n : ℕ) (l : List A) → length l ≤ n → length (padded n z l) ≡ n
-length-padded z n l h = let a = length-replicate (n - length l) z in rw length-append (omega arith)
-
-pub length-mapped : {A B : Type 0} (g : A → B) (z : B) (n : ℕ) (l : List A) → length l ≤ n → length (padded n z (map g l)) ≡ n
-length-mapped g z n l h = length-padded z n (map g l) (rw (length-map l g) h)
-
-pub getD-past : {A : Type 0} (xs rest : List A) (n i : ℕ) (d : A) → length xs ≡ n → getD (xs ++ rest) (n + i) d ≡ getD rest i d
-getD-past xs rest n i d e = rw (← e) (getD-append-add xs rest i d)
-
--- list 0 is the first; the others are those of the rest
-pub list-first : (xs rest : List Float) → length xs ≡ 16 → listAt (xs ++ rest) 0 ≡ xs
-unfolding listAt
-list-first xs rest h =
-    upTo-as _ (λ i. getD xs i nan) 16 (λ i l. let q : 0 * 16 + i ≡ i = omega arith in rw q (List·getD-append xs rest nan i (omega arith)))
-    ∙ upTo-same xs nan 16 h
-
-pub list-later : (xs rest : List Float) (n : ℕ) → length xs ≡ 16 → listAt (xs ++ rest) (suc n) ≡ listAt rest n
-unfolding listAt
-list-later xs rest n h =
-    upTo-as _ _ 16 (λ i l. let q : suc n * 16 + i ≡ 16 + (n * 16 + i) = omega arith in rw q (getD-past xs rest 16 (n * 16 + i) nan h))
-
--- place i of part b
-pub joinTo-at : {A : Type 0} (f : ℕ → List A) (n : ℕ) → ((i : ℕ) → length (f i) ≡ n) → (c b i : ℕ) (d : A) → b < c → i < n
-    → getD (joinTo f c) (b * n + i) d ≡ getD (f b) i d
-unfolding joinTo
-joinTo-at f n sized zero b i d h l = absurd (omega arith)
-joinTo-at f n sized (suc c) b i d h l =
-    let m = length-joinTo f n sized c in
-    ⊎-elim (λ (e : b ≡ c). rw (e, ← m) (getD-append-add (joinTo f c) (f c) i d))
-    (λ (q : b < c).
-    let w = row-below b c n i q l in
-    List·getD-append (joinTo f c) (f c) d (b * n + i) (omega arith) ∙ joinTo-at f n sized c b i d q l)
-    (eq-or-lt-of-le (omega arith))
-
--- ---- what stores from a place on leave: the first n are done
-pub store-next : {A : Type 0} (p l ls : List A) (n : ℕ) (x : A) → length p ≡ n → n < length l → ls ≡ p ++ drop n l → set ls n x ≡ (p ++ (x ∷ [])) ++ drop (n + 1) l
-store-next p l ls n x q h e = rw (e, add-one n, drop-cons l n x h, set-at p (getD l n x) (drop (suc n) l) x n q, append-assoc) refl
-
--- a list put at place n
-pub lay-next : {A : Type 0} (p xs l ls r : List A) (n k : ℕ) → length p ≡ n → length xs ≡ k → ls ≡ p ++ drop n l → r ≡ take n ls ++ (xs ++ drop (n + k) ls)
-    → r ≡ (p ++ xs) ++ drop (n + k) l
-lay-next p xs l ls r n k q h e f =
-    let d : drop (n + k) (p ++ drop n l) ≡ drop (n + k) l = rw (← drop-drop k n (p ++ drop n l), drop-at p (drop n l) n q) (drop-drop k n l) in
-    f ∙ rw (e, take-at p (drop n l) n q, d, append-assoc) refl

@@ -2,17 +2,17 @@
 ghost use mathlib.Core.Path.{_≡_};
 ghost use Prim.Native.Nat.{_+_, _≤_};
 ghost use mathlib.Core.List.{_++_};
-ghost use lib.ListN.{take, drop};
+ghost use lib.ListN.{length, take, drop};
 ghost use Rattle.making.specs.Making.{bandFloats};
 ghost use Rattle.making.specs.Columns.{listsFrom};
 use crate::fill::Columns;
 use crate::init::Bands;
 use filters::BiquadCoeffs;
 
-// A list put at a place.
+// A list put at a place. (And it is 16 long: where an array comes out of a struct, a proof does not know it.)
 fn lay(mut lists: [f32; 160], list: [f32; 16], at: usize) -> [f32; 160]
     requires { ⌜ at + 16 ≤ 160 ⌝ }
-    ensures { λ r. ⌜ r ≡ take at lists ++ (list ++ drop (at + 16) lists) ⌝ }
+    ensures { λ r. ⌜ (r ≡ take at lists ++ (list ++ drop (at + 16) lists)) × (length list ≡ 16) ⌝ }
 {
     let mut i = 0;
     while i < 16 {

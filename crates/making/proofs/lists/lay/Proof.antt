@@ -6,6 +6,7 @@ use native.Mathlib.Numerals.{add-one}
 use lib.ListN.{length, take, drop, getD, length-append, take-append-drop}
 use lib.Seq.{length-take-le, take-suc, take-all}
 use lib.Ieee.{Float, nan, ofBits, round}
+use Rattle.making.proofs.LayLaws.{laid-start, lay-again, laid-end}
 use borrow.Author.Needs.{needs}
 use Rattle.making.proofs.lists.lay.Statement.{statement}
 use Rattle.making.proofs.lists.lay.Tie as tie
@@ -20,7 +21,8 @@ abbrev μ-loop : tie.MeasureT-loop
 
 -- src/lists.rt:18:5
 loop-holds : tie.Need-loop-holds Inv-loop μ-loop
-loop-holds c = ?
+loop-holds c =
+    (omega arith, laid-start (c .args .t1) (c .args .at) (c .args .at + 0) (omega arith))
 
 -- src/lists.rt:19:25
 mul-lists : tie.Need-mul-lists Inv-loop μ-loop
@@ -52,11 +54,20 @@ loop-less c = search needs
 
 -- src/lists.rt:18:5
 loop-again : tie.Need-loop-again Inv-loop μ-loop
-loop-again c = ?
+loop-again c =
+    let b1 = c .before in
+    let b2 = b1 .before in
+    (omega arith, lay-again (b2 .args .t1) (b2 .args .t2) (b1 .loop .lists) (b2 .args .at) (b1 .loop .i) nan (search needs) (search needs) (b1 .loop .inv .1))
 
 -- src/lists.rt:13:1
 returns : tie.Need-returns Inv-loop μ-loop
-returns c = ?
+returns c =
+    let b1 = c .before in
+    let b2 = b1 .before in
+    let q : b1 .loop .i ≡ 16 = omega arith in
+    (laid-end (b2 .args .t2) (b2 .args .t1) (b1 .loop .lists) (b2 .args .at) (b2 .args .at + b1 .loop .i) (b2 .args .at + 16) (omega arith)
+    (b1 .loop .inv .1 ∙ ap (λ t. (take (b2 .args .at) (b2 .args .t1) ++ t) ++ drop (b2 .args .at + b1 .loop .i) (b2 .args .t1)) (take-all (b1 .loop .i) (b2 .args .t2) (search needs))),
+    search needs)
 
 pub lay-spec : {M : Type 1} → statement M
 lay-spec =

@@ -1,5 +1,5 @@
 use mathlib.Core.Path.{_≡_, refl, sym, ap, _∙_}
-use mathlib.Core.List.{[], _∷_, _++_, append-assoc, append-nil}
+use mathlib.Core.List.{List, [], _∷_, _++_, append-assoc, append-nil}
 use Prim.Native.Nat.{ℕ, _≤_, _-_, _+_, _*_, _<_}
 use native.Mathlib.Omega.{arith}
 use native.Mathlib.Numerals.{add-one}
@@ -10,7 +10,7 @@ use Rattle.voice.specs.Lists.{joinTo}
 use Rattle.voice.proofs.Loops.{length-joinTo}
 use Rattle.filters.specs.Band.{zeroCoeffs}
 use Rattle.making.specs.Making.{coeffFloats}
-use Rattle.making.proofs.MakeLists.{store-next}
+use Rattle.making.proofs.LayLaws.{laid-start, bands-again, laid-end}
 use borrow.Author.Needs.{needs}
 use Rattle.making.proofs.lists.lay_bands.Statement.{statement}
 use Rattle.making.proofs.lists.lay_bands.Tie as tie
@@ -25,7 +25,9 @@ abbrev μ-loop : tie.MeasureT-loop
 
 -- src/lists.rt:30:5
 loop-holds : tie.Need-loop-holds Inv-loop μ-loop
-loop-holds c = ?
+unfolding joinTo
+loop-holds c =
+    (omega arith, laid-start (c .args .t1) 64 64 refl)
 
 -- src/lists.rt:31:17
 mul-c : tie.Need-mul-c Inv-loop μ-loop
@@ -109,11 +111,20 @@ loop-less c = search needs
 
 -- src/lists.rt:30:5
 loop-again : tie.Need-loop-again Inv-loop μ-loop
-loop-again c = ?
+loop-again c =
+    let b2 = c .before .before in
+    let b3 = b2 .before in
+    (omega arith, bands-again (b3 .args .t2) _ (b3 .args .t1) (b2 .loop .lists) 64 (b2 .loop .b) (search needs) (search needs) (b2 .loop .inv .1))
 
 -- src/lists.rt:26:1
 returns : tie.Need-returns Inv-loop μ-loop
-returns c = ?
+returns c =
+    let b1 = c .before in
+    let b2 = b1 .before in
+    let q : b1 .loop .b ≡ 16 = omega arith in
+    let f : ℕ → List Float = λ i. coeffFloats (getD (b2 .args .t2) i zeroCoeffs) in
+    laid-end (joinTo f 16) (b2 .args .t1) (b1 .loop .lists) 64 (64 + b1 .loop .b * 5) 144 (omega arith)
+    (b1 .loop .inv .1 ∙ ap (λ n. (take 64 (b2 .args .t1) ++ joinTo f n) ++ drop (64 + b1 .loop .b * 5) (b2 .args .t1)) q)
 
 pub lay-bands-spec : {M : Type 1} → statement M
 lay-bands-spec =
