@@ -7,7 +7,6 @@ use mathlib.Core.Bool.{Bool, true, false, _&&_}
 use native.Mathlib.Omega.{arith}
 use lib.ListN.{length}
 use lib.Dec.{leb, eqb}
-use lib.Ieee.{Float}
 use Rattle.wire.specs.Parse.{Refusal, refusal, Parsed, Parser, ok, refused, pick, then, asked, many}
 use Rattle.wire.specs.Cursor.{Place, place, part, le16, le32, takeAt, u16, u32, stringOf, string, unexpectedEof, badUtf8}
 use Rattle.wire.specs.Utf8.{utf8}
@@ -17,7 +16,7 @@ use Rattle.table.specs.Table.{Pair, PitchEntry, CoeffTable, same}
 use Rattle.table.specs.Image.{text, counted, pair, pairs, entry, entries, Header, header, magic}
 use Rattle.table.specs.Span.{Verdict, agreed, broken, beside, agree, start, consistent, spanOf, floatEq, ruled}
 use Rattle.table.specs.Decode.{decode}
-use Rattle.making.specs.Making.{makeQuestion, questionOf, tableQuestion}
+use Rattle.making.specs.Making.{Making, makeQuestion, questionOf}
 use Rattle.making.proofs.MakingLaws.{Accepted, table-accepted}
 
 -- a refusal has a number
@@ -154,11 +153,11 @@ decode-numbered s r p z = go (decode s) (decode-n s) p
     go (refused x) n h = let w : x ≡ r = cc in n (ap (λ (y : Refusal). y .number) w ∙ z)
 
 -- LAW: an accepted making: its table, and all questions answered yes
-pub make-accepted : {G : Type 0} (k : Kind) (image : List ℕ) (rate : Float) (centres : List Float) → makeQuestion k image rate centres .number ≡ 0
-    → ((t : CoeffTable) (e : ℕ) → decode image ≡ ok t e → Accepted k (t .entries) rate centres → G) → G
+pub make-accepted : {G : Type 0} (m : Making) → makeQuestion m .number ≡ 0
+    → ((t : CoeffTable) (e : ℕ) → decode (m .image) ≡ ok t e → Accepted (m .kind) (t .entries) (m .rate) (m .centres) → G) → G
 unfolding makeQuestion
-make-accepted {G} k image rate centres h g = go (decode image) refl h
+make-accepted {G} m h g = go (decode (m .image)) refl h
   where
-    go : (p : Parsed CoeffTable) → decode image ≡ p → questionOf k p rate centres .number ≡ 0 → G
-    go (ok t e) q n = g t e q (table-accepted k (t .entries) rate centres n)
-    go (refused r) q n = absurd (decode-numbered image r q n)
+    go : (p : Parsed CoeffTable) → decode (m .image) ≡ p → questionOf (m .kind) p (m .rate) (m .centres) .number ≡ 0 → G
+    go (ok t e) q n = g t e q (table-accepted (m .kind) (t .entries) (m .rate) (m .centres) n)
+    go (refused r) q n = absurd (decode-numbered (m .image) r q n)

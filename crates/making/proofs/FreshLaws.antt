@@ -1,5 +1,5 @@
 -- A fresh voice keeps the voice rules: question 13 is answered yes of every voice that a making gives. Assumes nothing.
-use Prim.Native.Nat.{ℕ, zero, suc, _+_, _-_, _≤_, _<_, max, min}
+use Prim.Native.Nat.{ℕ, zero, suc, _+_, _-_, _*_, _≤_, _<_, max, min}
 use mathlib.Core.Path.{_≡_, refl, ap, sym, subst, _∙_}
 use mathlib.Core.Logic.{_⊎_, inl, inr}
 use mathlib.Core.List.{List, [], _∷_, _++_, map, append-nil}
@@ -20,10 +20,13 @@ use Rattle.table.specs.Table.{PitchEntry, CoeffTable, mPartials, hasChannel, me
 use Rattle.table.specs.Decode.{decode, entriesOf}
 use Rattle.table.specs.Desk.{bandCount}
 use Rattle.float.specs.F32.{nearest}
-use Rattle.voice.specs.Lists.{steps, every, padded}
-use Rattle.voice.specs.Voice.{pitchOk, stretchOk, phaseOk, pitchesAscend, bandsAscend, countsOk, entriesOk, liveOk, phasesOk, keepsRules, rateOk}
-use Rattle.making.specs.Making.{f32, all, sizesOk, valuesOk, keeps, insert, gathered, voiceEntries, mostChannels, channelCount, partialCoeff, isNonzero, presentFinite, mainlobeKey, noiseGainKey, reach, reachIn, phasesFor, phaseCount, isLive, liveBands, freshVoice, makeQuestion}
-use Rattle.voice.proofs.Loops.{both-true}
+use Rattle.voice.specs.Lists.{steps, joinTo, every, padded}
+use Rattle.voice.specs.Voice.{pitchOk, stretchOk, phaseOk, pitchesAscend, bandsAscend, countsOk, entriesOk, liveOk, phasesOk, rulesOf, keepsRules, rateOk, pitches, stretches, bandAt}
+use Rattle.filters.specs.Biquad.{noiseBand}
+use Rattle.filters.specs.Band.{zeroCoeffs}
+use Rattle.making.proofs.LayLaws.{length-mapped, getD-past, list-first, list-later, joinTo-at}
+use Rattle.making.specs.Making.{f32, all, sizesOk, valuesOk, keeps, insert, gathered, voiceEntries, mostChannels, channelCount, partialCoeff, isNonzero, presentFinite, mainlobeKey, noiseGainKey, reach, reachIn, phasesFor, phaseCount, isLive, liveBands, gainOf, coeffFloats, freshLists, freshVoice, Making, makeQuestion}
+use Rattle.voice.proofs.Loops.{both-true, length-joinTo}
 use Rattle.making.proofs.SortLaws.{all-insert, all-gathered, bands-few}
 use Rattle.making.proofs.MakingLaws.{Accepted, live-short}
 use Rattle.making.proofs.AcceptedLaws.{make-accepted}
@@ -275,43 +278,91 @@ value-stretch e h = both-true (stretchOk (f32 (e .stretch))) (all (λ b. finite 
 and-true : (a b : Bool) → a ≡ true → b ≡ true → a && b ≡ true
 and-true a b p q = rw (p, q) refl
 
+-- ---- what a fresh voice's lists hold, by their names
+abbrev column : (PitchEntry → Float) → List PitchEntry → List Float
+column g vs = padded 16 (nearest 0 1) (map g vs)
+
+module _ (k : Kind) (es : List PitchEntry) (rate : Float) (centres : List Float) (few : length (voiceEntries k es) ≤ 16) where
+  sized : (g : PitchEntry → Float) → length (column g (voiceEntries k es)) ≡ 16
+  sized g = length-mapped g (nearest 0 1) 16 (voiceEntries k es) few
+
+  -- LAW
+  pub fresh-pitches : pitches (freshVoice k es rate centres) ≡ padded 16 (nearest 0 1) (map (λ e. f32 (e .f0Hz)) (voiceEntries k es))
+  unfolding freshVoice freshLists
+  fresh-pitches = list-first (column pitch (voiceEntries k es)) _ (sized pitch)
+
+  -- LAW
+  pub fresh-stretches : stretches (freshVoice k es rate centres) ≡ padded 16 (nearest 0 1) (map (λ e. f32 (e .stretch)) (voiceEntries k es))
+  unfolding freshVoice freshLists
+  fresh-stretches =
+      list-later (column pitch (voiceEntries k es)) _ 0 (sized pitch)
+      ∙ list-first (column (λ e. f32 (e .stretch)) (voiceEntries k es)) _ (sized (λ e. f32 (e .stretch)))
+
+  -- place i of band b
+  band-place : length centres ≤ 16 → (b i : ℕ) → b < 16 → i < 5
+      → getD (freshVoice k es rate centres .lists) (16 + (16 + (16 + (16 + (b * 5 + i))))) nan
+      ≡ getD (coeffFloats (getD (padded 16 zeroCoeffs (map (λ c. noiseBand c rate) centres)) b zeroCoeffs)) i nan
+  unfolding freshVoice freshLists
+  band-place h b i l m =
+      let vs = voiceEntries k es in
+      let bands = padded 16 zeroCoeffs (map (λ (c : Float). noiseBand c rate) centres) in
+      let f : ℕ → List Float = λ b. coeffFloats (getD bands b zeroCoeffs) in
+      let n = length-joinTo f 5 (λ i. refl) 16 in
+      getD-past (column pitch vs) _ 16 (16 + (16 + (16 + (b * 5 + i)))) nan (sized pitch)
+      ∙ getD-past (column (λ e. f32 (e .stretch)) vs) _ 16 (16 + (16 + (b * 5 + i))) nan (sized (λ e. f32 (e .stretch)))
+      ∙ getD-past (column (gainOf mainlobeKey) vs) _ 16 (16 + (b * 5 + i)) nan (sized (gainOf mainlobeKey))
+      ∙ getD-past (column (gainOf noiseGainKey) vs) _ 16 (b * 5 + i) nan (sized (gainOf noiseGainKey))
+      ∙ List·getD-append (joinTo f 16) _ nan (b * 5 + i) (omega arith)
+      ∙ joinTo-at f 5 (λ i. refl) 16 b i nan l m
+
+  -- LAW
+  pub fresh-band : length centres ≤ 16 → (b : ℕ) → b < 16
+      → bandAt (freshVoice k es rate centres .lists) b ≡ getD (padded 16 zeroCoeffs (map (λ c. noiseBand c rate) centres)) b zeroCoeffs
+  fresh-band h b l =
+      let at : (i : ℕ) → i < 5 → getD (freshVoice k es rate centres .lists) (64 + b * 5 + i) nan ≡ getD (coeffFloats (getD (padded 16 zeroCoeffs (map (λ c. noiseBand c rate) centres)) b zeroCoeffs)) i nan
+          = λ i m. let q : 64 + b * 5 + i ≡ 16 + (16 + (16 + (16 + (b * 5 + i)))) = omega arith in rw q (band-place h b i l m) in
+      let z : 64 + b * 5 ≡ 64 + b * 5 + 0 = omega arith in
+      rw (ap (λ (x : ℕ). getD (freshVoice k es rate centres .lists) x nan) z ∙ at 0 (omega arith), at 1 (omega arith), at 2 (omega arith), at 3 (omega arith), at 4 (omega arith)) refl
+
+-- ---- question 13
 module _ (k : Kind) (es : List PitchEntry) (rate : Float) (centres : List Float) (a : Accepted k es rate centres) where
-  counts-ok : countsOk (freshVoice k es rate centres) ≡ true
+  pub entries-few : length (voiceEntries k es) ≤ 16
+  entries-few = let g = gathered-length k [] es in omega (arith, a .few)
+
+  counts-ok : countsOk (freshVoice k es rate centres .set) ≡ true
   unfolding countsOk freshVoice
   counts-ok =
-      let g = gathered-length k [] es in
-      let n : length (voiceEntries k es) ≤ 16 = omega (arith, a .few) in
       let b = bands-few k es (a .sizes) in
       let s = live-short k es (bandCount k es) in
       let l : length (liveBands k es (bandCount k es)) ≤ 16 = omega arith in
-      and-true _ _ (le-leb _ _ n)
+      and-true _ _ (le-leb _ _ entries-few)
       (and-true _ _ (le-leb _ _ (phases-few k (channelCount k es) es (a .sizes)))
       (and-true _ _ (le-leb _ _ b)
       (and-true _ _ (le-leb _ _ (channels-few k es)) (le-leb _ _ l))))
 
-  entries-ok : entriesOk (freshVoice k es rate centres) ≡ true
-  unfolding entriesOk freshVoice all ascends
+  entries-ok : entriesOk (freshVoice k es rate centres .lists) (length (voiceEntries k es)) ≡ true
+  unfolding entriesOk all ascends
   entries-ok =
       let v = all-gathered valuesOk k [] es refl (a .values) in
       let p = all-imp valuesOk (λ (e : PitchEntry). pitchOk (pitch e)) (voiceEntries k es) value-pitch v in
       let s = all-imp valuesOk (λ (e : PitchEntry). stretchOk (f32 (e .stretch))) (voiceEntries k es) value-stretch v in
       let g = gathered-ascends k [] es refl (all-imp valuesOk (λ (e : PitchEntry). pitchOk (pitch e)) es value-pitch (a .values)) refl in
-      and-true _ _ (padded-all pitchOk pitch (nearest 0 1) 16 (voiceEntries k es) p)
-      (and-true _ _ (pitches-ascend (voiceEntries k es) (g .1)) (padded-all stretchOk (λ (e : PitchEntry). f32 (e .stretch)) (nearest 0 1) 16 (voiceEntries k es) s))
+      simp (fresh-pitches k es rate centres entries-few, fresh-stretches k es rate centres entries-few)
+      (and-true _ _ (padded-all pitchOk pitch (nearest 0 1) 16 (voiceEntries k es) p)
+      (and-true _ _ (pitches-ascend (voiceEntries k es) (g .1)) (padded-all stretchOk (λ (e : PitchEntry). f32 (e .stretch)) (nearest 0 1) 16 (voiceEntries k es) s)))
 
-  live-ok : liveOk (freshVoice k es rate centres) ≡ true
+  live-ok : liveOk (freshVoice k es rate centres .set) ≡ true
   unfolding liveOk freshVoice
   live-ok =
       let r = live-rising k es (bandCount k es) in
       and-true _ _ (bands-below (bandCount k es) (liveBands k es (bandCount k es)) r) (bands-ascend (bandCount k es) (liveBands k es (bandCount k es)) r)
 
   pub accepted-rules : keepsRules (freshVoice k es rate centres) ≡ true
-  unfolding keepsRules freshVoice
+  unfolding rulesOf freshVoice
   accepted-rules =
       and-true _ _ counts-ok
       (and-true _ _ entries-ok (and-true _ _ (a .rate-ok) (and-true _ _ live-ok (phases-ok _ (phases-few k (channelCount k es) es (a .sizes))))))
 
 -- LAW: a fresh voice keeps the voice rules
-pub fresh-rules : (k : Kind) (image : List ℕ) (rate : Float) (centres : List Float) → makeQuestion k image rate centres .number ≡ 0
-    → keepsRules (freshVoice k (entriesOf (decode image)) rate centres) ≡ true
-fresh-rules k image rate centres h = make-accepted k image rate centres h λ t e p a. rw p (accepted-rules k (t .entries) rate centres a)
+pub fresh-rules : (m : Making) → makeQuestion m .number ≡ 0 → keepsRules (freshVoice (m .kind) (entriesOf (decode (m .image))) (m .rate) (m .centres)) ≡ true
+fresh-rules m h = make-accepted m h λ t e p a. rw p (accepted-rules (m .kind) (t .entries) (m .rate) (m .centres) a)

@@ -1,5 +1,6 @@
 pub mod ViewLaws
 pub mod MakeLists
+pub mod LayLaws
 pub mod CoeffLaws
 pub mod GatherLaws
 pub mod PlaceLaws

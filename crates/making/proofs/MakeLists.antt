@@ -5,8 +5,7 @@ use mathlib.Core.List.{List, [], _∷_, _++_, map, append-assoc, append-nil}
 use mathlib.Core.Bool.{Bool, true, false, _&&_}
 use native.Mathlib.Omega.{arith}
 use native.Mathlib.Numerals.{add-one}
-use native.Mathlib.Nat.{zero-add}
-use lib.ListN.{length, take, drop, getD, set, replicate, length-append, length-map, length-replicate, length-take, drop-of-length-le}
+use lib.ListN.{length, take, drop, getD, set, replicate, length-append, length-map, drop-of-length-le}
 use lib.Seq.{drop-cons, set-at, take-suc, length-take-le}
 use Rattle.wire.specs.Parse.{pick}
 use Rattle.voice.specs.Lists.{upTo, padded}

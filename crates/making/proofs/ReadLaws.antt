@@ -19,7 +19,7 @@ use Rattle.table.specs.Decode.{decode}
 use Rattle.table.specs.View.{entryAt}
 use Rattle.table.specs.Desk.{bandsOf, bandCount, desk, refusedBy, deskOf, deskOutcome}
 use Rattle.voice.specs.Question.{accepted}
-use Rattle.making.specs.Making.{limitsOk, tableQuestion, makeOf, makeQuestion, freshVoice, blankVoice}
+use Rattle.making.specs.Making.{Making, limitsOk, tableQuestion, makeOf, makeQuestion, freshVoice, blankVoice}
 use Rattle.making.proofs.CoeffLaws.{refused-number}
 
 -- the desk's answer tells the reading
@@ -51,7 +51,7 @@ pub given-back : {A : Type 0} (q : ℕ) (a b : A) → eqb q 0 ≡ false → acce
 given-back zero a b h = let z : _≡_ {A = ℕ} 0 1 = cc in absurd (omega arith)
 given-back (suc q) a b h = refl
 
-pub refused-make : (k : Kind) (image : List ℕ) (rate : Float) (centres : List Float) (e : CoeffTableCodecError) → decode image ≡ refused (refusalOf e)
-    → makeOf k image rate centres ≡ record { refusal = refusalOf e; voice = blankVoice }
+pub refused-make : (m : Making) (e : CoeffTableCodecError) → decode (m .image) ≡ refused (refusalOf e)
+    → makeOf m ≡ record { refusal = refusalOf e; voice = blankVoice }
 unfolding makeOf makeQuestion
-refused-make k image rate centres e p = rw (p, given-back (refusalOf e .number) (freshVoice k [] rate centres) blankVoice (refused-number e)) refl
+refused-make m e p = rw (p, given-back (refusalOf e .number) (freshVoice (m .kind) [] (m .rate) (m .centres)) blankVoice (refused-number e)) refl

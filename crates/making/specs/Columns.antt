@@ -1,11 +1,11 @@
 -- Arrays as the code holds them on the way to a voice. Cited by private functions only.
-use mathlib.Core.List.{List, map}
+use mathlib.Core.List.{List, _++_, map}
 use lib.Ieee.{Float}
 use Rattle.table.specs.Table.{PitchEntry}
 use Rattle.float.specs.F32.{nearest}
 use Rattle.voice.specs.Lists.{padded}
 use Rattle.filters.specs.Biquad.{noiseBand}
-use Rattle.making.specs.Making.{f32, gainOf, mainlobeKey, noiseGainKey}
+use Rattle.making.specs.Making.{f32, gainOf, mainlobeKey, noiseGainKey, bandFloats}
 use Rattle.filters.specs.Band.{zeroCoeffs, bandCompensation}
 use Rattle.making.specs.declared.fill.Columns.{Columns}
 use Rattle.making.specs.declared.init.Bands.{Bands}
@@ -25,3 +25,8 @@ bandsFrom centres rate = record {
   coeffs = padded 16 zeroCoeffs (map (λ c. noiseBand c rate) centres);
   compensation = padded 16 (nearest 0 1) (map (λ c. bandCompensation c rate) centres);
 }
+
+-- both laid one after the other, as a voice has them
+abbrev pub listsFrom : Columns → Bands → List Float
+listsFrom cols bands =
+    cols .«f0_hz» ++ (cols .stretch ++ (cols .«mainlobe_gain» ++ (cols .«noise_gain» ++ (bandFloats (bands .coeffs) ++ bands .compensation))))

@@ -13,10 +13,11 @@ use Rattle.table.specs.Table.{PitchEntry, CoeffTable, mPartials, hasChannel, co
 use Rattle.table.specs.Decode.{decode, entriesOf}
 use Rattle.table.specs.Desk.{bandCount}
 use Rattle.float.specs.F32.{nearest}
-use Rattle.voice.specs.Lists.{upTo, padded}
+use Rattle.voice.specs.Lists.{upTo, joinTo, padded}
 use Rattle.filters.specs.Biquad.{noiseBand}
 use Rattle.filters.specs.Band.{zeroCoeffs, bandCompensation}
-use Rattle.voice.specs.Voice.{pitchOk, stretchOk, rateOk, firstState}
+use Rattle.filters.specs.declared.biquad.BiquadCoeffs.{BiquadCoeffs}
+use Rattle.voice.specs.Voice.{pitchOk, stretchOk, rateOk, voiceOf, stateOf, noMemories, firstState}
 use Rattle.voice.specs.Question.{accepted}
 use Rattle.voice.specs.declared.voice.Voice.{Voice}
 
@@ -151,14 +152,31 @@ abbrev pub kindChannel : Kind → ℕ
 kindChannel (Kind.Single c) = c
 kindChannel Kind.Blend = 0
 
--- what an accepted making answers: the entries kept, sorted by pitch, with their gains and coefficients; rate, bands and compensations; the state at first.
--- Places that are not in use are 0.
+-- the five coefficients of a band as they stand in a voice's lists
+abbrev pub coeffFloats : BiquadCoeffs → List Float
+coeffFloats c = c .b0 ∷ c .b1 ∷ c .b2 ∷ c .a1 ∷ c .a2 ∷ []
+
+abbrev pub bandFloats : List BiquadCoeffs → List Float
+bandFloats bands = joinTo (λ b. coeffFloats (getD bands b zeroCoeffs)) 16
+
+-- the short lists: the entries' pitches, stretches and gains, the bands and their compensations. Places that are not in use are 0.
+unfoldable pub freshLists : List PitchEntry → Float → List Float → List Float
+freshLists vs rate centres =
+    padded 16 (nearest 0 1) (map (λ e. f32 (e .f0Hz)) vs)
+    ++ (padded 16 (nearest 0 1) (map (λ e. f32 (e .stretch)) vs)
+    ++ (padded 16 (nearest 0 1) (map (gainOf mainlobeKey) vs)
+    ++ (padded 16 (nearest 0 1) (map (gainOf noiseGainKey) vs)
+    ++ (bandFloats (padded 16 zeroCoeffs (map (λ c. noiseBand c rate) centres))
+    ++ padded 16 (nearest 0 1) (map (λ c. bandCompensation c rate) centres)))))
+
+-- what an accepted making answers: the numbers; of the entries kept, sorted by pitch, the short lists and the coefficients; the state at first
 unfoldable pub freshVoice : Kind → List PitchEntry → Float → List Float → Voice
 freshVoice k es rate centres =
     let vs = voiceEntries k es in
     let n = channelCount k es in
     let j = bandCount k es in
-    record {
+    voiceOf
+    (record {
       blend = kindNumber k;
       channel = kindChannel k;
       count = length vs;
@@ -166,41 +184,33 @@ freshVoice k es rate centres =
       m = phaseCount k n es;
       j = j;
       «live_count» = length (liveBands k es j);
-      live = padded 16 0 (liveBands k es j);
       «sample_rate» = rate;
-      «f0_hz» = padded 16 (nearest 0 1) (map (λ e. f32 (e .f0Hz)) vs);
-      stretch = padded 16 (nearest 0 1) (map (λ e. f32 (e .stretch)) vs);
-      «mainlobe_gain» = padded 16 (nearest 0 1) (map (gainOf mainlobeKey) vs);
-      «noise_gain» = padded 16 (nearest 0 1) (map (gainOf noiseGainKey) vs);
-      partials = upTo (partialPlace k n vs) 2048;
-      noise = upTo (noisePlace k n vs) 1024;
-      bands = padded 16 zeroCoeffs (map (λ c. noiseBand c rate) centres);
-      compensation = padded 16 (nearest 0 1) (map (λ c. bandCompensation c rate) centres);
-      state = firstState;
-    }
+      live = padded 16 0 (liveBands k es j);
+    })
+    (freshLists vs rate centres)
+    (upTo (partialPlace k n vs) 2048)
+    (upTo (noisePlace k n vs) 1024)
+    firstState
 
 -- a refused making makes no voice: the blank one, all zero, with no entries
 unfoldable pub blankVoice : Voice
-blankVoice = record {
-  blend = 0;
-  channel = 0;
-  count = 0;
-  k = 0;
-  m = 0;
-  j = 0;
-  «live_count» = 0;
-  live = replicate 16 0;
-  «sample_rate» = nearest 0 1;
-  «f0_hz» = replicate 16 (nearest 0 1);
-  stretch = replicate 16 (nearest 0 1);
-  «mainlobe_gain» = replicate 16 (nearest 0 1);
-  «noise_gain» = replicate 16 (nearest 0 1);
-  partials = replicate 2048 (nearest 0 1);
-  noise = replicate 1024 (nearest 0 1);
-  bands = replicate 16 zeroCoeffs;
-  compensation = replicate 16 (nearest 0 1);
-  state = record { phases = replicate 32 (nearest 0 1); memories = replicate 16 (record { z1 = nearest 0 1; z2 = nearest 0 1 }); rng = record { state = 0 } };
-}
+blankVoice =
+    voiceOf
+    (record {
+      blend = 0;
+      channel = 0;
+      count = 0;
+      k = 0;
+      m = 0;
+      j = 0;
+      «live_count» = 0;
+      «sample_rate» = nearest 0 1;
+      live = replicate 16 0;
+    })
+    (replicate 160 (nearest 0 1))
+    (replicate 2048 (nearest 0 1))
+    (replicate 1024 (nearest 0 1))
+    (stateOf (replicate 32 (nearest 0 1)) noMemories (record { state = 0 }))
 
 -- ---- questions 8 to 12
 -- all of a list pass a test
@@ -265,9 +275,19 @@ abbrev pub questionOf : Kind → Parsed CoeffTable → Float → List Float → 
 questionOf k (ok t end) rate centres = tableQuestion k (t .entries) rate centres
 questionOf k (refused r) rate centres = r
 
+-- a making's arguments
+pub record Making : Type 0 where
+  pub kind : Kind
+  pub image : List ℕ
+  pub rate : Float
+  pub centres : List Float
+
+abbrev pub making : Kind → List ℕ → Float → List Float → Making
+making k image rate centres = record { kind = k; image = image; rate = rate; centres = centres }
+
 -- questions 1 to 7 of the image, then 8 to 12
-unfoldable pub makeQuestion : Kind → List ℕ → Float → List Float → Refusal
-makeQuestion k image rate centres = questionOf k (decode image) rate centres
+unfoldable pub makeQuestion : Making → Refusal
+makeQuestion m = questionOf (m .kind) (decode (m .image)) (m .rate) (m .centres)
 
 -- a making's answer: the refusal (number 0 for none) and the voice
 pub record Made : Type 0 where
@@ -275,7 +295,7 @@ pub record Made : Type 0 where
   pub voice : Voice
 
 -- the fresh voice exactly where all questions are answered yes
-unfoldable pub makeOf : Kind → List ℕ → Float → List Float → Made
-makeOf k image rate centres =
-    let q = makeQuestion k image rate centres in
-    record { refusal = q; voice = accepted (q .number) (freshVoice k (entriesOf (decode image)) rate centres) blankVoice }
+unfoldable pub makeOf : Making → Made
+makeOf m =
+    let q = makeQuestion m in
+    record { refusal = q; voice = accepted (q .number) (freshVoice (m .kind) (entriesOf (decode (m .image))) (m .rate) (m .centres)) blankVoice }

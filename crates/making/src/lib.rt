@@ -6,6 +6,7 @@ mod fill;
 mod gather;
 mod init;
 mod limits;
+mod lists;
 mod live;
 mod making;
 mod values;

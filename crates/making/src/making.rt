@@ -5,8 +5,8 @@ ghost use mathlib.Core.List.{List};
 ghost use mathlib.Core.Bool.{true};
 ghost use lib.ListN.{length};
 ghost use Rattle.table.specs.Desk.{bandCount};
-ghost use Rattle.voice.specs.Voice.{firstState, rateOk};
-ghost use Rattle.making.specs.Making.{all, sizesOk, kindNumber, kindChannel, freshVoice, blankVoice, makeOf};
+ghost use Rattle.voice.specs.Voice.{rateOk};
+ghost use Rattle.making.specs.Making.{all, sizesOk, kindNumber, kindChannel, freshVoice, blankVoice, making, makeOf};
 ghost use Rattle.making.specs.Views.{viewed};
 ghost use Rattle.making.specs.MakeAnswer.{makeRefusal, madeOf, tableMade};
 use crate::answer::MakeAnswer;
@@ -19,18 +19,19 @@ use crate::fill::noise;
 use crate::fill::partials;
 use crate::gather::gather;
 use crate::init::init;
-use crate::init::zero_coeffs;
+use crate::lists::lists_of;
 use crate::live::live_bands;
 use crate::views::views_of;
-use filters::BiquadState;
 use filters::Rng;
 use table::desk::DeskRead;
 use table::desk::Kind;
 use table::desk::for_voice;
 use table::entry::EntryView;
 use table::start::entries_start;
+use voice::Setting;
 use voice::State;
 use voice::Voice;
+use voice::first_state;
 use wire::cursor::Cursor;
 
 // The answer, and the voice: the blank one where the making is refused.
@@ -43,42 +44,26 @@ pub struct MadeVoice {
 fn blank() -> Voice
     ensures { λ r. ⌜ r ≡ blankVoice ⌝ }
 {
-    let memory = BiquadState::new();
-    let band = zero_coeffs();
     Voice {
-        blend: 0,
-        channel: 0,
-        count: 0,
-        k: 0,
-        m: 0,
-        j: 0,
-        live_count: 0,
-        live: [0; 16],
-        sample_rate: 0.0,
-        f0_hz: [0.0; 16],
-        stretch: [0.0; 16],
-        mainlobe_gain: [0.0; 16],
-        noise_gain: [0.0; 16],
+        set: Setting {
+            blend: 0,
+            channel: 0,
+            count: 0,
+            k: 0,
+            m: 0,
+            j: 0,
+            live_count: 0,
+            sample_rate: 0.0,
+            live: [0; 16],
+        },
+        lists: [0.0; 160],
         partials: [0.0; 2048],
         noise: [0.0; 1024],
-        bands: [band; 16],
-        compensation: [0.0; 16],
         state: State {
             phases: [0.0; 32],
-            memories: [memory; 16],
+            memories: [0.0; 32],
             rng: Rng { state: 0 },
         },
-    }
-}
-
-fn first_state() -> State
-    ensures { λ r. ⌜ r ≡ firstState ⌝ }
-{
-    let memory = BiquadState::new();
-    State {
-        phases: [0.0; 32],
-        memories: [memory; 16],
-        rng: Rng::default(),
     }
 }
 
@@ -121,30 +106,21 @@ fn fresh(
     let cols = columns_of(image, entries, n);
     let bands = init(sample_rate, centres);
     let live_list = live.bands;
-    let f0_hz = cols.f0_hz;
-    let stretch = cols.stretch;
-    let mainlobe_gain = cols.mainlobe_gain;
-    let noise_gain = cols.noise_gain;
-    let coeffs = bands.coeffs;
-    let compensation = bands.compensation;
     Voice {
-        blend: kind_number(kind),
-        channel: kind_channel(kind),
-        count: n,
-        k: k as usize,
-        m: m as usize,
-        j: j as usize,
-        live_count: live.count,
-        live: live_list,
-        sample_rate,
-        f0_hz,
-        stretch,
-        mainlobe_gain,
-        noise_gain,
+        set: Setting {
+            blend: kind_number(kind),
+            channel: kind_channel(kind),
+            count: n,
+            k: k as usize,
+            m: m as usize,
+            j: j as usize,
+            live_count: live.count,
+            sample_rate,
+            live: live_list,
+        },
+        lists: lists_of(cols, bands),
         partials: partials(image, entries, n, kind, k),
         noise: noise(image, entries, n, kind, k),
-        bands: coeffs,
-        compensation,
         state: first_state(),
     }
 }
@@ -183,7 +159,7 @@ fn make_from(
 
 // A voice of an image: of one channel of its table, or of the blend of its channels.
 pub fn make(kind: Kind, image: &[u8], sample_rate: f32, centres: &[f32]) -> MadeVoice
-    ensures { λ r. ⌜ madeOf r ≡ makeOf kind (now (image .entry)) «sample_rate» (now (centres .entry)) ⌝ }
+    ensures { λ r. ⌜ madeOf r ≡ makeOf (making kind (now (image .entry)) «sample_rate» (now (centres .entry))) ⌝ }
 {
     match for_voice(image, kind) {
         DeskRead::Refused(e) => refuse(MakeAnswer::Refused(e)),

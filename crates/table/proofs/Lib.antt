@@ -14,3 +14,4 @@ pub mod Local
 pub mod RoundTrip
 pub mod Apart
 pub mod Bench
+pub mod ViewsLaws

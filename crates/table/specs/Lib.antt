@@ -11,3 +11,4 @@ pub mod Answer
 pub mod Desk
 pub mod Encode
 pub mod Rewrite
+pub mod Views

@@ -37,14 +37,14 @@ pub enum DeskRead {
     Refused(CoeffTableCodecError),
 }
 
-fn larger(a: u32, b: u32) -> u32
+pub fn larger(a: u32, b: u32) -> u32
     ensures { λ r. ⌜ r ≡ max a b ⌝ }
 {
     if a < b { b } else { a }
 }
 
 // The bands that an entry gives a voice.
-fn bands_of(kind: Kind, v: EntryView) -> u32
+pub fn bands_of(kind: Kind, v: EntryView) -> u32
     ensures { λ r. ⌜ ((s : List ℕ) → r ≡ bandsOf kind (entryAt s v)) ⌝ }
 {
     match kind {

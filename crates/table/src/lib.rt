@@ -13,3 +13,4 @@ pub use metadata::Found;
 pub mod read;
 pub mod rewrite;
 pub mod start;
+pub mod views;

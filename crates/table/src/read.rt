@@ -23,7 +23,7 @@ pub enum Reading {
     Refused(CoeffTableCodecError),
 }
 
-fn conclude(j: Baseline, n: usize, end: usize) -> Reading
+pub fn conclude(j: Baseline, n: usize, end: usize) -> Reading
     ensures { λ r. ⌜ readingParsed r ≡ concluded (verdictFrom j n []) n end ⌝ }
 {
     match j {

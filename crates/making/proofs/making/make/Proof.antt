@@ -10,7 +10,7 @@ use Rattle.table.specs.Desk.{bandCount, deskAnswer}
 use Rattle.table.specs.declared.desk.Desk.{Desk}
 use Rattle.table.specs.declared.start.Start.{Start}
 use Rattle.table.proofs.StartLaws.{entries-stand}
-use Rattle.making.specs.Making.{makeOf, makeQuestion}
+use Rattle.making.specs.Making.{making, makeOf, makeQuestion}
 use Rattle.making.specs.MakeAnswer.{tableMade}
 use Rattle.making.proofs.ReadLaws.{desk-refused, desk-read, bands-same, too-many}
 use borrow.Author.Needs.{needs}
@@ -90,7 +90,7 @@ returns-2 c =
     let b2 = c .before .before in
     let b4 = b2 .before .before in
     let b7 = b4 .before .before .before in
-    let p = desk-refused (b7 .args .kind) (decode (b7 .args .image .now)) _ (ap deskAnswer (sym (b2 .e .given .1)) ∙ b4 .for-voice .ensures) in rw (c .refuse .ensures .0, c .refuse .ensures .1) (sym (refused-make (b7 .args .kind) (b7 .args .image .now) (b7 .args .sample-rate) (b7 .args .centres .now) (b2 .e .given .0 .0) p))
+    let p = desk-refused (b7 .args .kind) (decode (b7 .args .image .now)) _ (ap deskAnswer (sym (b2 .e .given .1)) ∙ b4 .for-voice .ensures) in rw (c .refuse .ensures .0, c .refuse .ensures .1) (sym (refused-make (making (b7 .args .kind) (b7 .args .image .now) (b7 .args .sample-rate) (b7 .args .centres .now)) (b2 .e .given .0 .0) p))
 
 -- src/making.rt:186:1
 returns-3 : tie.Need-returns-3

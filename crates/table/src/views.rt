@@ -1,0 +1,99 @@
+// Reading an image and keeping its entries' views: read once, then looked into. For tables of at most 16 entries.
+ghost use mathlib.Core.Path.{_≡_};
+ghost use Prim.Native.Nat.{_≤_};
+ghost use lib.ListN.{length};
+ghost use Rattle.table.specs.declared.span.Baseline.{Baseline};
+ghost use Rattle.table.specs.Image.{entries};
+ghost use Rattle.table.specs.View.{entryList};
+ghost use Rattle.table.specs.Views.{viewed, noView, ViewsRead};
+ghost use Rattle.table.specs.Answer.{refusalOf, readingParsed};
+ghost use Rattle.table.specs.Baseline.{outcome};
+ghost use Rattle.wire.specs.Parse.{refused};
+use crate::entry::EntryRead;
+use crate::entry::EntryView;
+use crate::entry::entry_at;
+use crate::error::CoeffTableCodecError;
+use crate::header::HeaderRead;
+use crate::header::header_at;
+use crate::read::Reading;
+use crate::read::conclude;
+use crate::span::Baseline;
+use crate::span::judge;
+use crate::span::span_of;
+use wire::cursor::Cursor;
+
+// The answer of `from_bytes`, and of an accepted table of at most 16 entries a view of each.
+pub struct Views {
+    pub reading: Reading,
+    pub views: [EntryView; 16],
+}
+
+// A view of nothing.
+pub fn no_view() -> EntryView
+    ensures { λ r. ⌜ r ≡ noView ⌝ }
+{
+    EntryView {
+        f0_hz: 0,
+        stretch: 0,
+        m_partials: 0,
+        k_channels: 0,
+        j_noise: 0,
+        coefficients: 0,
+        pairs: 0,
+        partials_at: 0,
+        coefficients_at: 0,
+        pairs_at: 0,
+        end: 0,
+    }
+}
+
+fn no_views(e: CoeffTableCodecError) -> Views
+    ensures { λ r. ⌜ readingParsed (r .reading) ≡ refused (refusalOf e) ⌝ }
+{
+    let blank = no_view();
+    Views {
+        reading: Reading::Refused(e),
+        views: [blank; 16],
+    }
+}
+
+// The n entries at a cursor, and question 7 of all, as `entries_at` reads them. Past 16 entries the views are of no use.
+fn views_at(s: &[u8], c: Cursor, n: usize) -> Views
+    ensures reading { λ r. ⌜ readingParsed (r .reading) ≡ outcome Baseline.Start 0 (entries n (now (s .entry)) (c .at)) ⌝ }
+    ensures views { λ r. ⌜ (n ≤ 16 → length (entryList n (now (s .entry)) (c .at)) ≡ n
+        → viewed (now (s .entry)) (r .views) n ≡ entryList n (now (s .entry)) (c .at)) ⌝ }
+{
+    let blank = no_view();
+    let mut views = [blank; 16];
+    let mut d = c;
+    let mut i = 0;
+    let mut j = Baseline::Start;
+    while i < n {
+        match entry_at(s, d, i) {
+            EntryRead::Entry(v) => {
+                j = judge(j, i, span_of(s, v));
+                views[i % 16] = v;
+                d = Cursor { at: v.end };
+            }
+            EntryRead::Refused(e) => {
+                return no_views(e);
+            }
+        }
+        i += 1;
+    }
+    let reading = conclude(j, n, d.at);
+    Views { reading, views }
+}
+
+// Reads a whole image, with questions 1 to 7 as `from_bytes` asks them.
+pub fn views_of(image: &[u8]) -> Views
+    ensures { λ r. ⌜ ViewsRead (now (image .entry)) r ⌝ }
+{
+    if 65536 < image.len() {
+        return no_views(CoeffTableCodecError::TooLong);
+    }
+    match header_at(image) {
+        HeaderRead::Refused(e) => no_views(e),
+        HeaderRead::Header(h) => views_at(image, Cursor { at: h.end }, h.count as usize),
+    }
+}
