@@ -39,7 +39,8 @@ pub record Bench : Type 0 where
   -- name length 1, byte FF: 5
   pub p5 : counts (decode (0x4D ∷ 0x53 ∷ 0x43 ∷ 0x54 ∷ 1 ∷ 0 ∷ 1 ∷ 0 ∷ 0 ∷ 0 ∷ 0xFF ∷ [])) ≡ refused (refusal 5 0 0)
   -- P1 with version 0 rewrites to P1, whatever the target held
-  pub p6 : (a b c d e f g h i j k l m n : ℕ) → rewritten (decode (emptyTable 0)) (a ∷ b ∷ c ∷ d ∷ e ∷ f ∷ g ∷ h ∷ i ∷ j ∷ k ∷ l ∷ m ∷ n ∷ []) ≡ emptyTable 1
+  pub p6 : (a b c d e f g h i j k l m n : ℕ)
+      → rewritten (decode (emptyTable 0)) (a ∷ b ∷ c ∷ d ∷ e ∷ f ∷ g ∷ h ∷ i ∷ j ∷ k ∷ l ∷ m ∷ n ∷ []) ≡ emptyTable 1
   -- T at 0, 1, 64, 128, 256
   pub p7 : (quarterOf 0 ≡ 0) × (quarterOf 1 ≡ 51471) × (quarterOf 64 ≡ 3210683) × (quarterOf 128 ≡ 5934197) × (quarterOf 256 ≡ 8388608)
   -- phase 0.75 gaining 0.5 is 0.25
