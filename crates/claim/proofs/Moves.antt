@@ -5,7 +5,7 @@ use mathlib.Core.List.{List, [], _∷_, _++_, map}
 use mathlib.Core.Bool.{Bool, true, false}
 use Prim.Native.Nat.{ℕ, zero, suc, _+_, _≤_, _<_}
 use native.Mathlib.Omega.{arith}
-use lib.ListN.{length, take, getD, length-map}
+use lib.ListN.{length, take, getD, replicate, length-map}
 use lib.Dec.{eqb}
 use lib.Ieee.{Float}
 use borrow.Author.Tests.{ne-eqb}
@@ -20,18 +20,18 @@ use Rattle.filters.specs.Rng.{stepped, bipolarOf, nextBipolar, newRng}
 use Rattle.filters.specs.Biquad.{cleared, noiseBand}
 use Rattle.filters.specs.Band.{zeroCoeffs}
 use Rattle.voice.specs.Input.{frequencyAt, cleaned}
-use Rattle.voice.specs.Voice.{pitches, stretches, bandAt, memoryAt, keepsRules, withState, stateOf, firstState}
+use Rattle.voice.specs.Voice.{bandAt, memoryAt, keepsRules, withState, stateOf, firstState}
 use Rattle.player.specs.Sound.{unitVariance, noiseIn, sidesAt, stretchAt, movedPhases, movedRng, movedMemories, moved}
 use Rattle.player.specs.Block.{stateAt, blockEnd}
 use Rattle.voice.specs.Question.{ask, accepted, playQuestion}
 use Rattle.player.specs.Play.{played}
 use Rattle.voice.specs.Restart.{resetOf, reseedOf, reseededState}
-use Rattle.making.specs.Making.{f32, voiceEntries, liveBands, isLive, freshVoice, Making}
+use Rattle.making.specs.Making.{f32, voiceEntries, liveBands, freshVoice, Making}
 use Rattle.making.proofs.FreshLaws.{fresh-pitches, fresh-stretches, fresh-band}
 use Rattle.filters.specs.declared.rng.Rng.{Rng}
 use Rattle.voice.specs.declared.voice.State.{State}
 use Rattle.voice.specs.declared.voice.Voice.{Voice}
-use Rattle.claim.specs.Machine.{Plain, plainFrom, Machine, Event, frequency, reset, seed, startFrom, advanced, tick, stretchOf, noiseNext, atFrequency, Supplied, supplied, move, machineFrom}
+use Rattle.claim.specs.Machine.{Plain, plainFrom, Machine, Event, frequency, seed, startFrom, advanced, tick, stretchOf, noiseNext, atFrequency, Supplied, supplied, move, machineFrom}
 use Rattle.claim.specs.Calls.{VoiceCall, playing, resetting, reseeding, after, run, fedBy, fed, running, CallsF32}
 use Rattle.claim.proofs.Folds.{take-replicate, getD-padded}
 use Rattle.claim.proofs.Memories.{length-written, memories-first}
@@ -202,7 +202,9 @@ module _ (k : Kind) (es : List PitchEntry) (rate : Float) (centres : List Float)
 
     view-reseed : (s : State) (n : ℕ) → supply (reseededState s n) ≡ move plainly (view s) (seed n)
     unfolding freshVoice move
-    view-reseed s n = rw (memories-first (bandCount k es) most, bands-length)
+    view-reseed s n =
+        ap (λ ms. supplied plainly (record { phases = take (plainly .phases) (s .phases); memories = ms; noise = newRng n .state }))
+        (memories-first (bandCount k es) most ∙ ap (λ l. replicate l cleared) (sym bands-length))
 
     -- LAW: one call
     pub view-after : (m : Making) (s : State) (c : VoiceCall) → plainly .phases ≤ 32 → Sized s → keepsRules (withState fresh s) ≡ true

@@ -18,13 +18,13 @@ use Rattle.voice.specs.Voice.{phaseOk, phasesOk, keepsRules, firstState}
 use Rattle.voice.specs.Question.{accepted}
 use Rattle.making.specs.Making.{f32, voiceEntries, freshVoice, blankVoice, Making, makeQuestion, makeOf}
 use Rattle.voice.specs.declared.voice.Voice.{Voice}
-use Rattle.claim.specs.Machine.{machine, plainFrom, plainOf, supplied, machineFrom, startFrom}
+use Rattle.claim.specs.Machine.{machine, plainOf, supplied, machineFrom}
 use Rattle.claim.specs.Calls.{VoiceCall, run, fed, running, CallsF32}
 use Rattle.claim.specs.Claim.{PhasesIn, Claim}
 use Rattle.voice.proofs.Loops.{both-true, every-at}
 use Rattle.claim.proofs.Folds.{getD-padded}
 use Rattle.claim.proofs.Rules.{VoiceF32, rules-of, phases-of, rules-kept-run}
-use Rattle.claim.proofs.Moves.{Sized, first-sized, view-first, view-run}
+use Rattle.claim.proofs.Moves.{first-sized, view-first, view-run}
 use Rattle.making.proofs.MakingLaws.{Accepted}
 use Rattle.making.proofs.AcceptedLaws.{make-accepted}
 use Rattle.making.proofs.FreshLaws.{fresh-pitches, fresh-stretches, entries-few, fresh-rules}
@@ -42,15 +42,14 @@ column-fits pattern vs l e i h =
     let g : PitchEntry → Float = λ e. f32 (pattern e) in
     rw (e, getD-padded 16 (nearest 0 1) nan (map g vs) i (rw (length-map vs g) h)) (map-fits pattern vs i)
 
-module _ (k : Kind) (es : List PitchEntry) (rate : Float) (centres : List Float) (A : Accepted k es rate centres) where
-  fresh-32 : VoiceF32 (freshVoice k es rate centres)
-  unfolding freshVoice
-  fresh-32 =
-      let few = entries-few k es rate centres A in
-      record {
-        pitches32 = column-fits (λ e. e .f0Hz) (voiceEntries k es) _ (fresh-pitches k es rate centres few);
-        stretches32 = column-fits (λ e. e .stretch) (voiceEntries k es) _ (fresh-stretches k es rate centres few);
-      }
+fresh-32 : (k : Kind) (es : List PitchEntry) (rate : Float) (centres : List Float) → Accepted k es rate centres → VoiceF32 (freshVoice k es rate centres)
+unfolding freshVoice
+fresh-32 k es rate centres A =
+    let few = entries-few k es rate centres A in
+    record {
+      pitches32 = column-fits (λ e. e .f0Hz) (voiceEntries k es) _ (fresh-pitches k es rate centres few);
+      stretches32 = column-fits (λ e. e .stretch) (voiceEntries k es) _ (fresh-stretches k es rate centres few);
+    }
 
 -- what question 13 says of the phases
 pub phases-in : (v : Voice) → keepsRules v ≡ true → PhasesIn v

@@ -8,8 +8,7 @@ use lib.Ieee.Exact.{HasValue}
 use Rattle.wire.specs.Parse.{refusal, ok, refused}
 use Rattle.table.specs.Decode.{decode}
 use Rattle.table.specs.Answer.{counts}
-use Rattle.table.specs.Encode.{encode}
-use Rattle.table.specs.Rewrite.{rewriting, rewritten}
+use Rattle.table.specs.Rewrite.{rewritten}
 use Rattle.player.specs.declared.bracket.Bracket.{Bracket}
 use Rattle.float.specs.F32.{nearest}
 use Rattle.wave_table.specs.Wave.{quarterOf}

@@ -1,8 +1,8 @@
 -- The plain machine (document 01, module 6): phases, memories and the noise number, moved by frequencies, resets and seeds.
 -- It takes entries, rate and band coefficients from a making's arguments, never from a voice. Single and blend share it.
-use Prim.Native.Nat.{ℕ, zero, suc, _+_}
+use Prim.Native.Nat.{ℕ, _+_}
 use mathlib.Core.List.{List, [], _∷_, map}
-use mathlib.Core.Bool.{Bool, true, false, _||_}
+use mathlib.Core.Bool.{Bool, false, _||_}
 use lib.ListN.{length, replicate}
 use lib.Dec.{eqb}
 use lib.Ieee.{Float}
