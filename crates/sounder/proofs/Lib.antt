@@ -1,2 +1,1 @@
 pub mod DoorLaws
-pub mod PlayerLaws
