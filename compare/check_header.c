@@ -9,20 +9,21 @@ _Static_assert(sizeof(struct sounder_place) == 16, "place");
 _Static_assert(sizeof(struct sounder_desk_answer) == 40, "desk answer");
 _Static_assert(offsetof(struct sounder_desk_answer, bands) == 24, "desk answer");
 
-_Static_assert(sizeof(struct sounder_voice) == 13368, "voice");
-_Static_assert(offsetof(struct sounder_voice, live) == 48, "voice");
-_Static_assert(offsetof(struct sounder_voice, partials) == 436, "voice");
-_Static_assert(offsetof(struct sounder_voice, bands) == 12724, "voice");
-_Static_assert(offsetof(struct sounder_voice, state) == 13108, "voice");
-_Static_assert(sizeof(struct sounder_made_answer) == 24 + 13368, "made answer");
+_Static_assert(sizeof(struct sounder_voice) == 13376, "voice");
+_Static_assert(offsetof(struct sounder_voice, sample_rate) == 48, "voice");
+_Static_assert(offsetof(struct sounder_voice, live) == 56, "voice");
+_Static_assert(offsetof(struct sounder_voice, f0_hz) == 184, "voice");
+_Static_assert(offsetof(struct sounder_voice, bands) == 184 + 64 * 4, "voice");
+_Static_assert(offsetof(struct sounder_voice, compensation) == 184 + 144 * 4, "voice");
+_Static_assert(offsetof(struct sounder_voice, partials) == 824, "voice");
+_Static_assert(offsetof(struct sounder_voice, noise) == 9016, "voice");
+_Static_assert(offsetof(struct sounder_voice, state) == 13112, "voice");
+_Static_assert(sizeof(struct sounder_state) == 260, "state");
+_Static_assert(sizeof(struct sounder_shape) == 56, "shape");
+_Static_assert(sizeof(struct sounder_made_answer) == 24 + 13376, "made answer");
 _Static_assert(offsetof(struct sounder_played_answer, voice) == 8, "played answer");
-_Static_assert(sizeof(struct sounder_played_answer) == 8 + 13368, "played answer");
+_Static_assert(sizeof(struct sounder_played_answer) == 8 + 13376, "played answer");
 _Static_assert(sizeof(struct sounder_noise_power) == 8, "noise power");
-_Static_assert(sizeof(struct sounder_setting) == 56, "setting");
-_Static_assert(offsetof(struct sounder_setting, sample_rate) == 48, "setting");
-_Static_assert(sizeof(struct sounder_lent_answer) == 8, "lent answer");
-_Static_assert(offsetof(struct sounder_voice, compensation) - offsetof(struct sounder_voice, bands) == 80 * sizeof(float), "bands");
-_Static_assert(offsetof(struct sounder_state, noise) - offsetof(struct sounder_state, memories) == 32 * sizeof(float), "memories");
 
 static int failures;
 
