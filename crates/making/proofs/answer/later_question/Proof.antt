@@ -7,7 +7,7 @@ use Rattle.making.proofs.answer.later_question.Reads as reads
 use Rattle.making.proofs.answer.later_question.Lts as lts
 use Rattle.making.proofs.answer.centres_ok.Reads as centres-ok-reads
 use Rattle.making.proofs.answer.channel_found.Reads as channel-found-reads
-use Rattle.making.proofs.answer.rate_ok.Reads as rate-ok-reads
+use Rattle.voice.proofs.rate_ok.Reads as rate-ok-reads
 
 -- src/answer.rt:123:9
 channel-found-requires : tie.Need-channel-found-requires

@@ -13,7 +13,7 @@ use Rattle.making.proofs.counts.most_channels.Statement.{statement}
 use Rattle.making.proofs.counts.most_channels.Tie as tie
 use Rattle.making.proofs.counts.most_channels.Reads as reads
 use Rattle.making.proofs.counts.most_channels.Lts as lts
-use Rattle.making.proofs.counts.larger.Reads as larger-reads
+use Rattle.table.proofs.desk.larger.Reads as larger-reads
 
 abbrev Inv-loop : tie.InvT-loop
 Inv-loop count views best₀ i₀ best i = (i ≤ count) × ((s : List ℕ) → max best (mostChannels (rest s views i count)) ≡ mostChannels (viewed s views count))

@@ -11,7 +11,7 @@ use Rattle.making.proofs.counts.phase_count.Statement.{statement}
 use Rattle.making.proofs.counts.phase_count.Tie as tie
 use Rattle.making.proofs.counts.phase_count.Reads as reads
 use Rattle.making.proofs.counts.phase_count.Lts as lts
-use Rattle.making.proofs.counts.larger.Reads as larger-reads
+use Rattle.table.proofs.desk.larger.Reads as larger-reads
 use Rattle.making.proofs.counts.phases_for.Reads as phases-for-reads
 
 abbrev Inv-loop : tie.InvT-loop

@@ -10,7 +10,7 @@ use Rattle.making.proofs.counts.reach_in.Statement.{statement}
 use Rattle.making.proofs.counts.reach_in.Tie as tie
 use Rattle.making.proofs.counts.reach_in.Reads as reads
 use Rattle.making.proofs.counts.reach_in.Lts as lts
-use Rattle.making.proofs.counts.larger.Reads as larger-reads
+use Rattle.table.proofs.desk.larger.Reads as larger-reads
 use Rattle.making.proofs.counts.reach_of.Reads as reach-of-reads
 
 abbrev Inv-loop : tie.InvT-loop

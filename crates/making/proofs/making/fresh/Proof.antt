@@ -13,7 +13,7 @@ use native.Mathlib.Omega.{arith}
 use lib.ListN.{length}
 use Rattle.making.specs.Views.{viewed}
 use Rattle.making.proofs.SortLaws.{all-gathered, bands-few}
-use Rattle.making.proofs.GatherLaws.{viewed-length}
+use Rattle.table.proofs.ViewsLaws.{viewed-length}
 use borrow.Author.Needs.{needs}
 use Rattle.making.proofs.making.fresh.Statement.{statement}
 use Rattle.making.proofs.making.fresh.Tie as tie

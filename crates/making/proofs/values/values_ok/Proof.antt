@@ -10,8 +10,8 @@ use Rattle.making.proofs.values.values_ok.Lts as lts
 use Rattle.float.proofs.from_bits.Reads as from-bits-reads
 use Rattle.making.proofs.values.coefficients_ok.Reads as coefficients-ok-reads
 use Rattle.making.proofs.values.found_ok.Reads as found-ok-reads
-use Rattle.making.proofs.values.pitch_ok.Reads as pitch-ok-reads
-use Rattle.making.proofs.values.stretch_ok.Reads as stretch-ok-reads
+use Rattle.voice.proofs.pitch_ok.Reads as pitch-ok-reads
+use Rattle.voice.proofs.stretch_ok.Reads as stretch-ok-reads
 use Rattle.table.proofs.entry.metadata_value.Reads as metadata-value-reads
 
 -- src/values.rt:71:18
