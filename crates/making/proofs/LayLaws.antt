@@ -14,10 +14,7 @@ use Rattle.voice.specs.Voice.{listAt}
 use Rattle.voice.proofs.Loops.{upTo-as, upTo-same, length-joinTo, row-below, read-any}
 use Rattle.filters.specs.Band.{zeroCoeffs}
 use Rattle.filters.specs.declared.biquad.BiquadCoeffs.{BiquadCoeffs}
-use Rattle.making.specs.Making.{coeffFloats, bandFloats}
-use Rattle.making.specs.Columns.{listsFrom}
-use Rattle.making.specs.declared.fill.Columns.{Columns}
-use Rattle.making.specs.declared.init.Bands.{Bands}
+use Rattle.making.specs.Making.{coeffFloats}
 
 pub length-padded : {A : Type 0} (z : A) (n : ℕ) (l : List A) → length l ≤ n → length (padded n z l) ≡ n
 length-padded z n l h = let a = length-replicate (n - length l) z in rw length-append (omega arith)

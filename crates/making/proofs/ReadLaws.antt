@@ -8,7 +8,7 @@ use lib.ListN.{length}
 use lib.Dec.{eqb}
 use lib.Ieee.{Float}
 use borrow.Author.Tests.{lt-leb}
-use Rattle.wire.specs.Parse.{Refusal, refusal, Parsed, ok, refused}
+use Rattle.wire.specs.Parse.{refusal, ok, refused}
 use Rattle.table.specs.declared.desk.Kind.{Kind}
 use Rattle.table.specs.declared.read.Reading.{Reading}
 use Rattle.table.specs.declared.views.Views.{Views}

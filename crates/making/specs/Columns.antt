@@ -32,7 +32,8 @@ bandsFrom centres rate = record {
 -- both laid one after the other, as a voice has them
 abbrev pub listsFrom : Columns → Bands → List Float
 listsFrom cols bands =
-    cols .«f0_hz» ++ (cols .stretch ++ (cols .«mainlobe_gain» ++ (cols .«noise_gain» ++ (bandFloats (bands .coeffs) ++ bands .compensation))))
+    cols .«f0_hz»
+    ++ (cols .stretch ++ (cols .«mainlobe_gain» ++ (cols .«noise_gain» ++ (bandFloats (bands .coeffs) ++ bands .compensation))))
 
 -- the channel that a slot holds
 abbrev pub slotOption : Slot → Option ℕ

@@ -92,7 +92,8 @@ fn fresh(
     sample_rate: f32,
     centres: &[f32],
 ) -> Voice
-    requires { ⌜ count ≤ 16 ⌝ ∗ ⌜ all sizesOk (viewed (now image) views count) ≡ true ⌝ ∗ ⌜ j ≡ bandCount kind (viewed (now image) views count) ⌝ ∗ ⌜ rateOk «sample_rate» ≡ true ⌝ ∗ ⌜ length (now centres) ≡ j ⌝ }
+    requires { ⌜ count ≤ 16 ⌝ ∗ ⌜ all sizesOk (viewed (now image) views count) ≡ true ⌝
+        ∗ ⌜ j ≡ bandCount kind (viewed (now image) views count) ⌝ ∗ ⌜ rateOk «sample_rate» ≡ true ⌝ ∗ ⌜ length (now centres) ≡ j ⌝ }
     ensures { λ r. ⌜ r ≡ freshVoice kind (viewed (now (image .entry)) views count) «sample_rate» (now (centres .entry)) ⌝ }
 {
     let k = channel_count(views, count, kind);

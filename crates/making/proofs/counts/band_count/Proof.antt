@@ -1,5 +1,5 @@
 use lib.ListN.{length}
-use mathlib.Core.Path.{_≡_, refl, sym, ap, _∙_}
+use mathlib.Core.Path.{_≡_, ap}
 use Prim.Native.Nat.{ℕ, _≤_, _-_, max}
 use mathlib.Core.List.{List}
 use native.Mathlib.Omega.{arith}
@@ -9,10 +9,6 @@ use Rattle.making.proofs.ViewLaws.{rest, rest-go, rest-end}
 use borrow.Author.Needs.{needs}
 use Rattle.making.proofs.counts.band_count.Statement.{statement}
 use Rattle.making.proofs.counts.band_count.Tie as tie
-use Rattle.making.proofs.counts.band_count.Reads as reads
-use Rattle.making.proofs.counts.band_count.Lts as lts
-use Rattle.table.proofs.desk.bands_of.Reads as bands-of-reads
-use Rattle.table.proofs.desk.larger.Reads as larger-reads
 
 abbrev Inv-loop : tie.InvT-loop
 Inv-loop count kind views best₀ i₀ best i = (i ≤ count) × ((s : List ℕ) → max best (bandCount kind (rest s views i count)) ≡ bandCount kind (viewed s views count))

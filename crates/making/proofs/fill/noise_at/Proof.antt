@@ -1,13 +1,8 @@
-use mathlib.Core.Path.{_≡_, refl, sym, ap, _∙_}
+use mathlib.Core.Path.{refl}
 use lib.Ieee.{ofBits, round}
-use Rattle.making.specs.Columns.{slotOption}
 use borrow.Author.Needs.{needs}
 use Rattle.making.proofs.fill.noise_at.Statement.{statement}
 use Rattle.making.proofs.fill.noise_at.Tie as tie
-use Rattle.making.proofs.fill.noise_at.Reads as reads
-use Rattle.making.proofs.fill.noise_at.Lts as lts
-use Rattle.making.proofs.coeffs.noise_coeff.Reads as noise-coeff-reads
-use Rattle.making.proofs.fill.slot_channel.Reads as slot-channel-reads
 
 -- src/fill.rt:105:11
 slot-channel-requires : tie.Need-slot-channel-requires

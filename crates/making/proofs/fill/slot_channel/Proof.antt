@@ -1,10 +1,8 @@
-use mathlib.Core.Path.{_≡_, refl, sym, ap, _∙_}
+use mathlib.Core.Path.{refl}
 use borrow.Author.Tests.{eq-eqb, ne-eqb, lt-ltb, le-ltb}
 use borrow.Author.Needs.{needs}
 use Rattle.making.proofs.fill.slot_channel.Statement.{statement}
 use Rattle.making.proofs.fill.slot_channel.Tie as tie
-use Rattle.making.proofs.fill.slot_channel.Reads as reads
-use Rattle.making.proofs.fill.slot_channel.Lts as lts
 
 -- src/fill.rt:60:22
 enum-known-kind : tie.Need-enum-known-kind

@@ -1,17 +1,14 @@
-use mathlib.Core.Path.{_≡_, refl, sym, ap, _∙_}
-use mathlib.Core.List.{[], _∷_, _++_, append-assoc, append-nil}
-use Prim.Native.Nat.{ℕ, _≤_, _-_, _+_, _*_, _<_}
+use mathlib.Core.Path.{_≡_, ap, _∙_}
+use mathlib.Core.List.{_++_}
+use Prim.Native.Nat.{_≤_, _-_, _+_}
 use native.Mathlib.Omega.{arith}
-use native.Mathlib.Numerals.{add-one}
-use lib.ListN.{length, take, drop, getD, length-append, take-append-drop}
-use lib.Seq.{length-take-le, take-suc, take-all}
-use lib.Ieee.{Float, nan, ofBits, round}
+use lib.ListN.{take, drop}
+use lib.Seq.{take-all}
+use lib.Ieee.{nan}
 use Rattle.making.proofs.LayLaws.{laid-start, lay-again, laid-end}
 use borrow.Author.Needs.{needs}
 use Rattle.making.proofs.lists.lay.Statement.{statement}
 use Rattle.making.proofs.lists.lay.Tie as tie
-use Rattle.making.proofs.lists.lay.Reads as reads
-use Rattle.making.proofs.lists.lay.Lts as lts
 
 abbrev Inv-loop : tie.InvT-loop
 Inv-loop at lists₀ list i₀ lists i = (i ≤ 16) × (lists ≡ (take at lists₀ ++ take i list) ++ drop (at + i) lists₀)

@@ -1,20 +1,15 @@
 use Rattle.making.specs.Making.{coeffFloats, bandFloats}
-use lib.ListN.{length, getD, replicate, length-replicate}
-use lib.Ieee.{Float, binary32, ofBits}
+use lib.ListN.{getD, replicate, length-replicate}
+use lib.Ieee.{binary32, ofBits}
 use native.Mathlib.Omega.{arith}
 use Rattle.making.proofs.LayLaws.{six-laid}
 use Rattle.voice.proofs.Loops.{length-joinTo}
 use Rattle.filters.specs.Band.{zeroCoeffs}
-use mathlib.Core.Path.{_≡_, refl, sym, ap, _∙_}
-use mathlib.Core.List.{List}
-use Prim.Native.Nat.{ℕ, _+_, _≤_}
+use mathlib.Core.Path.{refl, ap}
+use Prim.Native.Nat.{ℕ, _+_}
 use borrow.Author.Needs.{needs}
 use Rattle.making.proofs.lists.lists_of.Statement.{statement}
 use Rattle.making.proofs.lists.lists_of.Tie as tie
-use Rattle.making.proofs.lists.lists_of.Reads as reads
-use Rattle.making.proofs.lists.lists_of.Lts as lts
-use Rattle.making.proofs.lists.lay.Reads as lay-reads
-use Rattle.making.proofs.lists.lay_bands.Reads as lay-bands-reads
 
 -- src/lists.rt:52:9
 lay-requires : tie.Need-lay-requires

@@ -1,6 +1,6 @@
 use Rattle.table.specs.Table.{PitchEntry}
 use Rattle.voice.specs.Lists.{padded, upTo}
-use Rattle.making.specs.Columns.{columnsOf, bandsFrom, listsFrom}
+use Rattle.making.specs.Columns.{columnsOf, listsFrom}
 use Rattle.making.specs.declared.live.Live.{Live}
 use Rattle.making.specs.declared.fill.Columns.{Columns}
 use Rattle.making.specs.declared.init.Bands.{Bands}
@@ -8,7 +8,7 @@ use Rattle.making.proofs.VoiceFields.{setting-eq, voice-eq}
 use Rattle.making.specs.Making.{all, sizesOk, voiceEntries, freshLists, freshVoice, phaseCount, liveBands, partialPlace, noisePlace}
 use mathlib.Core.Path.{_≡_, refl, sym, ap, _∙_}
 use mathlib.Core.List.{List, []}
-use Prim.Native.Nat.{ℕ, _≤_}
+use Prim.Native.Nat.{ℕ}
 use native.Mathlib.Omega.{arith}
 use lib.ListN.{length}
 use Rattle.making.specs.Views.{viewed}
@@ -17,20 +17,6 @@ use Rattle.table.proofs.ViewsLaws.{viewed-length}
 use borrow.Author.Needs.{needs}
 use Rattle.making.proofs.making.fresh.Statement.{statement}
 use Rattle.making.proofs.making.fresh.Tie as tie
-use Rattle.making.proofs.making.fresh.Reads as reads
-use Rattle.making.proofs.making.fresh.Lts as lts
-use Rattle.making.proofs.counts.channel_count.Reads as channel-count-reads
-use Rattle.making.proofs.counts.phase_count.Reads as phase-count-reads
-use Rattle.making.proofs.fill.columns_of.Reads as columns-of-reads
-use Rattle.making.proofs.fill.noise.Reads as noise-reads
-use Rattle.making.proofs.fill.partials.Reads as partials-reads
-use Rattle.making.proofs.gather.gather.Reads as gather-reads
-use Rattle.making.proofs.init.init.Reads as init-reads
-use Rattle.making.proofs.lists.lists_of.Reads as lists-of-reads
-use Rattle.making.proofs.live.live_bands.Reads as live-bands-reads
-use Rattle.making.proofs.making.kind_channel.Reads as kind-channel-reads
-use Rattle.making.proofs.making.kind_number.Reads as kind-number-reads
-use Rattle.voice.proofs.first_state.Reads as first-state-reads
 
 -- src/making.rt:100:9
 channel-count-requires : tie.Need-channel-count-requires

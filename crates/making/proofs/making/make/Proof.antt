@@ -1,4 +1,4 @@
-use mathlib.Core.Path.{_≡_, refl, sym, ap, _∙_}
+use mathlib.Core.Path.{refl, sym, _∙_}
 use native.Mathlib.Omega.{arith}
 use Rattle.making.specs.Making.{making, makeOf, makeQuestion}
 use Rattle.making.specs.MakeAnswer.{tableMade}
@@ -6,11 +6,6 @@ use Rattle.making.proofs.ReadLaws.{table-read, table-refused, too-many,
 use borrow.Author.Needs.{needs}
 use Rattle.making.proofs.making.make.Statement.{statement}
 use Rattle.making.proofs.making.make.Tie as tie
-use Rattle.making.proofs.making.make.Reads as reads
-use Rattle.making.proofs.making.make.Lts as lts
-use Rattle.making.proofs.making.make_from.Reads as make-from-reads
-use Rattle.making.proofs.making.refuse.Reads as refuse-reads
-use Rattle.table.proofs.views.views_of.Reads as views-of-reads
 
 -- src/making.rt:162:9
 views-of-requires : tie.Need-views-of-requires

@@ -6,18 +6,11 @@ use Rattle.wire.specs.Parse.{Refusal}
 use Rattle.making.specs.Making.{tableQuestion, freshVoice, blankVoice}
 use Rattle.making.specs.Views.{viewed}
 use Rattle.making.specs.MakeAnswer.{makeRefusal, tableMade}
-use Rattle.making.proofs.MakingLaws.{table-accepted, accepted-whole}
+use Rattle.making.proofs.MakingLaws.{table-accepted, accepted-question}
 use Rattle.making.proofs.ReadLaws.{given-back}
 use borrow.Author.Needs.{needs}
 use Rattle.making.proofs.making.make_from.Statement.{statement}
 use Rattle.making.proofs.making.make_from.Tie as tie
-use Rattle.making.proofs.making.make_from.Reads as reads
-use Rattle.making.proofs.making.make_from.Lts as lts
-use Rattle.making.proofs.answer.is_done.Reads as is-done-reads
-use Rattle.making.proofs.answer.question.Reads as question-reads
-use Rattle.making.proofs.counts.band_count.Reads as band-count-reads
-use Rattle.making.proofs.making.fresh.Reads as fresh-reads
-use Rattle.making.proofs.making.refuse.Reads as refuse-reads
 
 -- src/making.rt:147:9
 band-count-requires : tie.Need-band-count-requires
@@ -54,7 +47,8 @@ returns c =
     let b7 = b3 .before .before .before .before in
     let es = viewed (b7 .args .image .now) (b7 .args .views) (b7 .args .count) in
         let z = ap (λ (q : Refusal). q .number) (sym (b3 .question .ensures)) ∙ eqb-true _ _ (sym (b2 .is-done .ensures) ∙ b1 .if1 .taken) in
-        rw (c .fresh .ensures, accepted-whole (b7 .args .kind) es (b7 .args .sample-rate) (b7 .args .centres .now) z) refl
+        let a = table-accepted (b7 .args .kind) es (b7 .args .sample-rate) (b7 .args .centres .now) z in
+        rw (c .fresh .ensures, accepted-question (b7 .args .kind) es (b7 .args .sample-rate) (b7 .args .centres .now) a) refl
 
 -- src/making.rt:155:5
 refuse-requires : tie.Need-refuse-requires
