@@ -319,7 +319,7 @@ module _ (k : Kind) (es : List PitchEntry) (rate : Float) (centres : List Float)
       → bandAt (freshVoice k es rate centres .lists) b ≡ getD (padded 16 zeroCoeffs (map (λ c. noiseBand c rate) centres)) b zeroCoeffs
   fresh-band h b l =
       let at : (i : ℕ) → i < 5 → getD (freshVoice k es rate centres .lists) (64 + b * 5 + i) nan ≡ getD (coeffFloats (getD (padded 16 zeroCoeffs (map (λ c. noiseBand c rate) centres)) b zeroCoeffs)) i nan
-          = λ i m. let q : 64 + b * 5 + i ≡ 16 + (16 + (16 + (16 + (b * 5 + i)))) = omega arith in rw q (band-place h b i l m) in
+      = λ i m. let q : 64 + b * 5 + i ≡ 16 + (16 + (16 + (16 + (b * 5 + i)))) = omega arith in rw q (band-place h b i l m) in
       let z : 64 + b * 5 ≡ 64 + b * 5 + 0 = omega arith in
       rw (ap (λ (x : ℕ). getD (freshVoice k es rate centres .lists) x nan) z ∙ at 0 (omega arith), at 1 (omega arith), at 2 (omega arith), at 3 (omega arith), at 4 (omega arith)) refl
 

@@ -112,7 +112,7 @@ lay-next : {A : Type 0} (p xs l ls r : List A) (n m : ℕ) → length p ≡ n �
 lay-next p xs l ls r n m q k e f =
     let j : n + (m - n) ≡ m = omega arith in
     let d : drop m (p ++ drop n l) ≡ drop m l =
-        ap (λ (x : ℕ). drop x (p ++ drop n l)) (sym j) ∙ sym (drop-drop (m - n) n (p ++ drop n l)) ∙ ap (drop (m - n)) (drop-at p (drop n l) n q) ∙ drop-drop (m - n) n l ∙ ap (λ (x : ℕ). drop x l) j in
+    ap (λ (x : ℕ). drop x (p ++ drop n l)) (sym j) ∙ sym (drop-drop (m - n) n (p ++ drop n l)) ∙ ap (drop (m - n)) (drop-at p (drop n l) n q) ∙ drop-drop (m - n) n l ∙ ap (λ (x : ℕ). drop x l) j in
     f ∙ rw (e, take-at p (drop n l) n q, d) (sym (append-assoc p xs (drop m l)))
 
 -- LAW: six lists put one after the other, with nothing left of what was there

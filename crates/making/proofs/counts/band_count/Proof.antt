@@ -54,7 +54,7 @@ loop-again c =
     let b4 = b3 .before in
     let b5 = b4 .before in
     let len : length (b5 .args .t1) ≡ 16 = search needs in
-        (omega arith, λ s. let p = b4 .loop .inv .1 s in let q = ap (bandCount (b5 .args .kind)) (rest-go s (b5 .args .t1) (b4 .loop .i) (b5 .args .count) noView (omega arith) (b3 .loop-test .taken)) in omega (arith, c .larger .ensures, b1 .bands-of .ensures s))
+    (omega arith, λ s. let p = b4 .loop .inv .1 s in let q = ap (bandCount (b5 .args .kind)) (rest-go s (b5 .args .t1) (b4 .loop .i) (b5 .args .count) noView (omega arith) (b3 .loop-test .taken)) in omega (arith, c .larger .ensures, b1 .bands-of .ensures s))
 
 -- src/counts.rt:17:1
 returns : tie.Need-returns Inv-loop μ-loop

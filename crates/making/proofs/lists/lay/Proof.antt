@@ -61,10 +61,11 @@ returns : tie.Need-returns Inv-loop μ-loop
 returns c =
     let b1 = c .before in
     let b2 = b1 .before in
-    let q : b1 .loop .i ≡ 16 = omega arith in
-    (laid-end (b2 .args .t2) (b2 .args .t1) (b1 .loop .lists) (b2 .args .at) (b2 .args .at + b1 .loop .i) (b2 .args .at + 16) (omega arith)
-    (b1 .loop .inv .1 ∙ ap (λ t. (take (b2 .args .at) (b2 .args .t1) ++ t) ++ drop (b2 .args .at + b1 .loop .i) (b2 .args .t1)) (take-all (b1 .loop .i) (b2 .args .t2) (search needs))),
-    search needs)
+    let q : b1 .loop .i ≡ 16 = omega arith in (
+      laid-end (b2 .args .t2) (b2 .args .t1) (b1 .loop .lists) (b2 .args .at) (b2 .args .at + b1 .loop .i) (b2 .args .at + 16) (omega arith)
+          (b1 .loop .inv .1 ∙ ap (λ t. (take (b2 .args .at) (b2 .args .t1) ++ t) ++ drop (b2 .args .at + b1 .loop .i) (b2 .args .t1)) (take-all (b1 .loop .i) (b2 .args .t2) (search needs))),
+      search needs,
+    )
 
 pub lay-spec : {M : Type 1} → statement M
 lay-spec =

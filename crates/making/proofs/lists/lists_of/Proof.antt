@@ -45,9 +45,9 @@ returns c =
     let b5 = b4 .before in
     let b12 = b5 .before .before .before .before .before .before .before in
     six-laid (replicate 160 (ofBits binary32 0)) (b12 .args .cols .«f0_hz») (b12 .args .cols .stretch) (b12 .args .cols .«mainlobe_gain») (b12 .args .cols .«noise_gain») (bandFloats (b12 .args .bands .coeffs)) (b12 .args .bands .compensation)
-        (b5 .lay .result) (b4 .lay2 .result) (b3 .lay3 .result) (b2 .lay4 .result) (b1 .lay-bands .result) (c .lay5 .result) 16 32 48 64 144 160
-        (b5 .lay .ensures .1) (ap (λ (n : ℕ). 16 + n) (b4 .lay2 .ensures .1)) (ap (λ (n : ℕ). 32 + n) (b3 .lay3 .ensures .1)) (ap (λ (n : ℕ). 48 + n) (b2 .lay4 .ensures .1)) (ap (λ (n : ℕ). 64 + n) (length-joinTo (λ i. coeffFloats (getD (b12 .args .bands .coeffs) i zeroCoeffs)) 5 (λ i. refl) 16)) (omega arith) (omega (arith, length-replicate 160 (ofBits binary32 0)))
-        (b5 .lay .ensures .0) (b4 .lay2 .ensures .0) (b3 .lay3 .ensures .0) (b2 .lay4 .ensures .0) (b1 .lay-bands .ensures) (c .lay5 .ensures .0)
+    (b5 .lay .result) (b4 .lay2 .result) (b3 .lay3 .result) (b2 .lay4 .result) (b1 .lay-bands .result) (c .lay5 .result) 16 32 48 64 144 160
+    (b5 .lay .ensures .1) (ap (λ (n : ℕ). 16 + n) (b4 .lay2 .ensures .1)) (ap (λ (n : ℕ). 32 + n) (b3 .lay3 .ensures .1)) (ap (λ (n : ℕ). 48 + n) (b2 .lay4 .ensures .1)) (ap (λ (n : ℕ). 64 + n) (length-joinTo (λ i. coeffFloats (getD (b12 .args .bands .coeffs) i zeroCoeffs)) 5 (λ i. refl) 16)) (omega arith) (omega (arith, length-replicate 160 (ofBits binary32 0)))
+    (b5 .lay .ensures .0) (b4 .lay2 .ensures .0) (b3 .lay3 .ensures .0) (b2 .lay4 .ensures .0) (b1 .lay-bands .ensures) (c .lay5 .ensures .0)
 
 pub lists-of-spec : {M : Type 1} → statement M
 lists-of-spec =
