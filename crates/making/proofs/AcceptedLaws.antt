@@ -1,19 +1,18 @@
 -- What an accepted making says: the image is read, and every question of its table is answered yes. Every refusal of a reading has a number
 -- above 0, so that number 0 is "accepted". Assumes nothing.
 use Prim.Native.Nat.{ℕ, zero, suc, _+_, _*_}
-use mathlib.Core.Path.{_≡_, refl, ap, sym, _∙_}
+use mathlib.Core.Path.{_≡_, refl, ap, _∙_}
 use mathlib.Core.List.{List, [], _∷_}
 use mathlib.Core.Bool.{Bool, true, false, _&&_}
 use native.Mathlib.Omega.{arith}
 use lib.ListN.{length}
 use lib.Dec.{leb, eqb}
 use Rattle.wire.specs.Parse.{Refusal, refusal, Parsed, Parser, ok, refused, pick, then, asked, many}
-use Rattle.wire.specs.Cursor.{Place, place, part, le16, le32, takeAt, u16, u32, stringOf, string, unexpectedEof, badUtf8}
+use Rattle.wire.specs.Cursor.{place, part, le16, le32, takeAt, u16, u32, stringOf, string, unexpectedEof, badUtf8}
 use Rattle.wire.specs.Utf8.{utf8}
-use Rattle.table.specs.declared.desk.Kind.{Kind}
 use Rattle.table.specs.declared.span.Span.{Span}
-use Rattle.table.specs.Table.{Pair, PitchEntry, CoeffTable, same}
-use Rattle.table.specs.Image.{text, counted, pair, pairs, entry, entries, Header, header, magic}
+use Rattle.table.specs.Table.{PitchEntry, CoeffTable, same}
+use Rattle.table.specs.Image.{text, counted, pair, pairs, entry, entries, header, magic}
 use Rattle.table.specs.Span.{Verdict, agreed, broken, beside, agree, start, consistent, spanOf, floatEq, ruled}
 use Rattle.table.specs.Decode.{decode}
 use Rattle.making.specs.Making.{Making, makeQuestion, questionOf}

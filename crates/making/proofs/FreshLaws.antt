@@ -1,31 +1,30 @@
 -- A fresh voice keeps the voice rules: question 13 is answered yes of every voice that a making gives. Assumes nothing.
-use Prim.Native.Nat.{ℕ, zero, suc, _+_, _-_, _*_, _≤_, _<_, max, min}
+use Prim.Native.Nat.{ℕ, zero, suc, _+_, _-_, _*_, _≤_, _<_}
 use mathlib.Core.Path.{_≡_, refl, ap, sym, subst, _∙_}
 use mathlib.Core.Logic.{_⊎_, inl, inr}
 use mathlib.Core.List.{List, [], _∷_, _++_, map, append-nil}
 use mathlib.Core.Bool.{Bool, true, false, _&&_}
 use native.Mathlib.Omega.{arith}
-use native.Mathlib.Numerals.{add-one}
 use native.Mathlib.Nat.{eq-or-lt-of-le, le-of-suc-le-suc}
 use lib.ListN.{length, getD, replicate, length-append, length-map, List·getD-append, getD-replicate}
 use lib.Seq.{getD-append-seam}
-use lib.Dec.{T, leb, ltb, eqb}
+use lib.Dec.{T, leb, ltb}
 use lib.Ieee.{Float, nan, inf, fin, round, lt, le, eq}
 use lib.Ieee.Scale.{finite}
 use borrow.Author.Tests.{leb-true, le-leb, lt-ltb}
-use Rattle.wire.specs.Parse.{Refusal, Parsed, ok, refused, pick}
+use Rattle.wire.specs.Parse.{pick}
 use Rattle.float.proofs.Compare.{finite-not-lt, lt-le}
 use Rattle.table.specs.declared.desk.Kind.{Kind}
-use Rattle.table.specs.Table.{PitchEntry, CoeffTable, mPartials, hasChannel, metadataValue}
+use Rattle.table.specs.Table.{PitchEntry, mPartials, hasChannel, metadataValue}
 use Rattle.table.specs.Decode.{decode, entriesOf}
 use Rattle.table.specs.Desk.{bandCount}
 use Rattle.float.specs.F32.{nearest}
 use Rattle.voice.specs.Lists.{steps, joinTo, every, padded}
-use Rattle.voice.specs.Voice.{pitchOk, stretchOk, phaseOk, pitchesAscend, bandsAscend, countsOk, entriesOk, liveOk, phasesOk, rulesOf, keepsRules, rateOk, pitches, stretches, bandAt}
+use Rattle.voice.specs.Voice.{pitchOk, stretchOk, phaseOk, pitchesAscend, bandsAscend, countsOk, entriesOk, liveOk, phasesOk, rulesOf, keepsRules, pitches, stretches, bandAt}
 use Rattle.filters.specs.Biquad.{noiseBand}
 use Rattle.filters.specs.Band.{zeroCoeffs}
 use Rattle.making.proofs.LayLaws.{length-mapped, getD-past, list-first, list-later, joinTo-at}
-use Rattle.making.specs.Making.{f32, all, sizesOk, valuesOk, keeps, insert, gathered, voiceEntries, mostChannels, channelCount, partialCoeff, isNonzero, presentFinite, mainlobeKey, noiseGainKey, reach, reachIn, phasesFor, phaseCount, isLive, liveBands, gainOf, coeffFloats, freshLists, freshVoice, Making, makeQuestion}
+use Rattle.making.specs.Making.{f32, all, sizesOk, valuesOk, keeps, insert, gathered, voiceEntries, channelCount, partialCoeff, isNonzero, presentFinite, mainlobeKey, noiseGainKey, reach, reachIn, phasesFor, phaseCount, isLive, liveBands, gainOf, coeffFloats, freshLists, freshVoice, Making, makeQuestion}
 use Rattle.voice.proofs.Loops.{both-true, length-joinTo}
 use Rattle.making.proofs.SortLaws.{all-insert, all-gathered, bands-few}
 use Rattle.making.proofs.MakingLaws.{Accepted, live-short}
@@ -320,7 +319,7 @@ module _ (k : Kind) (es : List PitchEntry) (rate : Float) (centres : List Float)
       → bandAt (freshVoice k es rate centres .lists) b ≡ getD (padded 16 zeroCoeffs (map (λ c. noiseBand c rate) centres)) b zeroCoeffs
   fresh-band h b l =
       let at : (i : ℕ) → i < 5 → getD (freshVoice k es rate centres .lists) (64 + b * 5 + i) nan ≡ getD (coeffFloats (getD (padded 16 zeroCoeffs (map (λ c. noiseBand c rate) centres)) b zeroCoeffs)) i nan
-          = λ i m. let q : 64 + b * 5 + i ≡ 16 + (16 + (16 + (16 + (b * 5 + i)))) = omega arith in rw q (band-place h b i l m) in
+      = λ i m. let q : 64 + b * 5 + i ≡ 16 + (16 + (16 + (16 + (b * 5 + i)))) = omega arith in rw q (band-place h b i l m) in
       let z : 64 + b * 5 ≡ 64 + b * 5 + 0 = omega arith in
       rw (ap (λ (x : ℕ). getD (freshVoice k es rate centres .lists) x nan) z ∙ at 0 (omega arith), at 1 (omega arith), at 2 (omega arith), at 3 (omega arith), at 4 (omega arith)) refl
 

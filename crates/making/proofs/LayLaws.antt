@@ -14,10 +14,7 @@ use Rattle.voice.specs.Voice.{listAt}
 use Rattle.voice.proofs.Loops.{upTo-as, upTo-same, length-joinTo, row-below, read-any}
 use Rattle.filters.specs.Band.{zeroCoeffs}
 use Rattle.filters.specs.declared.biquad.BiquadCoeffs.{BiquadCoeffs}
-use Rattle.making.specs.Making.{coeffFloats, bandFloats}
-use Rattle.making.specs.Columns.{listsFrom}
-use Rattle.making.specs.declared.fill.Columns.{Columns}
-use Rattle.making.specs.declared.init.Bands.{Bands}
+use Rattle.making.specs.Making.{coeffFloats}
 
 pub length-padded : {A : Type 0} (z : A) (n : ℕ) (l : List A) → length l ≤ n → length (padded n z l) ≡ n
 length-padded z n l h = let a = length-replicate (n - length l) z in rw length-append (omega arith)
@@ -115,7 +112,7 @@ lay-next : {A : Type 0} (p xs l ls r : List A) (n m : ℕ) → length p ≡ n �
 lay-next p xs l ls r n m q k e f =
     let j : n + (m - n) ≡ m = omega arith in
     let d : drop m (p ++ drop n l) ≡ drop m l =
-        ap (λ (x : ℕ). drop x (p ++ drop n l)) (sym j) ∙ sym (drop-drop (m - n) n (p ++ drop n l)) ∙ ap (drop (m - n)) (drop-at p (drop n l) n q) ∙ drop-drop (m - n) n l ∙ ap (λ (x : ℕ). drop x l) j in
+    ap (λ (x : ℕ). drop x (p ++ drop n l)) (sym j) ∙ sym (drop-drop (m - n) n (p ++ drop n l)) ∙ ap (drop (m - n)) (drop-at p (drop n l) n q) ∙ drop-drop (m - n) n l ∙ ap (λ (x : ℕ). drop x l) j in
     f ∙ rw (e, take-at p (drop n l) n q, d) (sym (append-assoc p xs (drop m l)))
 
 -- LAW: six lists put one after the other, with nothing left of what was there

@@ -1,5 +1,4 @@
 -- Each answer of `make` has a number and values of its own: what its contract says of an answer fixes it. Assumes nothing.
-use Prim.Native.Nat.{ℕ}
 use mathlib.Core.Path.{_≡_, refl, ap, sym, _∙_}
 use lib.Dec.{eqb}
 use Rattle.wire.specs.Parse.{Refusal, pick}

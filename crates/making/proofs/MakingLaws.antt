@@ -1,6 +1,6 @@
 -- Laws of questions 8 to 12: what an accepted making says of its table and arguments. Assumes nothing.
 use Prim.Native.Nat.{ℕ, zero, suc, _+_, _≤_}
-use mathlib.Core.Path.{_≡_, refl, ap, sym, _∙_}
+use mathlib.Core.Path.{_≡_, refl}
 use mathlib.Core.List.{List, [], _∷_, _++_, append-nil}
 use mathlib.Core.Bool.{Bool, true, false, _&&_}
 use native.Mathlib.Omega.{arith}
@@ -10,12 +10,12 @@ use lib.Dec.{leb, eqb}
 use lib.Ieee.{Float}
 use lib.Ieee.Scale.{finite}
 use borrow.Author.Tests.{leb-true, le-leb, eqb-true, eq-eqb}
-use Rattle.wire.specs.Parse.{Refusal, refusal, Parsed, ok, refused, pick}
+use Rattle.wire.specs.Parse.{Refusal, refusal, pick}
 use Rattle.table.specs.declared.desk.Kind.{Kind}
-use Rattle.table.specs.Table.{PitchEntry, CoeffTable}
+use Rattle.table.specs.Table.{PitchEntry}
 use Rattle.table.specs.Desk.{bandCount}
 use Rattle.voice.specs.Voice.{rateOk}
-use Rattle.making.specs.Making.{all, sizesOk, limitsOk, valuesOk, askValues, channelFound, centresOk, askMaking, tableQuestion, isLive, liveBands}
+use Rattle.making.specs.Making.{all, sizesOk, limitsOk, valuesOk, askValues, channelFound, askMaking, tableQuestion, isLive, liveBands}
 use Rattle.voice.proofs.Loops.{both-true}
 
 -- all questions of a table are answered yes
@@ -67,16 +67,6 @@ module _ (k : Kind) (es : List PitchEntry) (rate : Float) (centres : List Float)
         as-many = eqb-true _ _ (m .0);
         centres-finite = m .1;
       }
-
-  pub accepted-whole : tableQuestion k es rate centres .number ≡ 0 → tableQuestion k es rate centres ≡ refusal 0 0 0
-  unfolding tableQuestion limitsOk
-  accepted-whole h =
-      let a = asked (leb (length es) 16 && all sizesOk es) 7 _ h in
-      let b = asked-values 0 es _ (a .1) in
-      let c = asked (channelFound k es) 9 _ (b .1) in
-      let d = asked (rateOk rate) 10 _ (c .1) in
-      let e = asked (eqb (length centres) (bandCount k es) && all finite centres) 11 _ (d .1) in
-      rw (a .0, values-pass 0 es _ (b .0), c .0, d .0, e .0) refl
 
   -- and there it is accepted
   pub accepted-question : Accepted k es rate centres → tableQuestion k es rate centres ≡ refusal 0 0 0

@@ -1,19 +1,16 @@
 -- What stands at a place of a voice's flat arrays, by the entries' views. Assumes nothing.
-use Prim.Native.Nat.{ℕ, _+_, _-_, _*_, _/_, _%_, _≤_, _<_}
-use mathlib.Core.Path.{_≡_, refl, ap, sym, _∙_}
+use Prim.Native.Nat.{ℕ, _*_, _/_, _%_, _≤_, _<_}
+use mathlib.Core.Path.{_≡_, ap}
 use mathlib.Core.List.{List}
-use mathlib.Core.Option.{Option, some, none}
 use native.Mathlib.Omega.{arith}
 use native.Mathlib.Nat.{div-lt-iff-lt-mul, le-div-iff-mul-le, mul-comm}
 use lib.ListN.{length, getD}
 use lib.Dec.{lit<}
-use lib.Ieee.{Float}
 use Rattle.table.specs.declared.entry.EntryView.{EntryView}
 use Rattle.table.specs.declared.desk.Kind.{Kind}
-use Rattle.table.specs.Table.{PitchEntry}
 use Rattle.table.specs.View.{entryAt}
 use Rattle.float.specs.F32.{nearest}
-use Rattle.making.specs.Making.{partialCoeff, noiseCoeff, inSlot, slotChannel, ofEntry, nth, partialPlace, noisePlace}
+use Rattle.making.specs.Making.{partialCoeff, noiseCoeff, inSlot, slotChannel, ofEntry, partialPlace, noisePlace}
 use Rattle.making.specs.Views.{viewed}
 use Rattle.making.specs.Views.{noView}
 use Rattle.making.proofs.GatherLaws.{nth-view, nth-past}

@@ -1,11 +1,10 @@
 -- Laws of entries held as views, one turn of a loop over them. Assumes nothing.
-use Prim.Native.Nat.{ℕ, zero, suc, _+_, _-_, _*_, _≤_, _<_, max}
+use Prim.Native.Nat.{ℕ, _+_, _≤_, _<_, max}
 use mathlib.Core.Path.{_≡_, refl, ap, sym, _∙_}
-use mathlib.Core.List.{List, [], _∷_, _++_, map}
-use mathlib.Core.Bool.{Bool, true, false, _&&_, _||_}
-use mathlib.Core.Option.{Option, some, none}
-use Rattle.wire.specs.Parse.{Refusal, refusal, pick}
-use Rattle.making.specs.Making.{all, any, askValues, valuesOk, liveIn, liveAmong, phaseCount, phasesFor, nth}
+use mathlib.Core.List.{List, [], _∷_, map}
+use mathlib.Core.Bool.{Bool, true, false}
+use Rattle.wire.specs.Parse.{Refusal, refusal}
+use Rattle.making.specs.Making.{all, any, askValues, valuesOk, liveIn, liveAmong, phaseCount, phasesFor}
 use Rattle.table.specs.declared.desk.Kind.{Kind}
 use native.Mathlib.Omega.{arith}
 use native.Mathlib.Numerals.{add-one}

@@ -6,7 +6,6 @@ use lib.Ieee.{Float}
 use Rattle.voice.specs.Voice.{voiceOf}
 use Rattle.voice.specs.declared.voice.Setting.{Setting}
 use Rattle.voice.specs.declared.voice.State.{State}
-use Rattle.voice.specs.declared.voice.Voice.{Voice}
 
 abbrev pub settingOf : ℕ → ℕ → ℕ → ℕ → ℕ → ℕ → ℕ → Float → List ℕ → Setting
 settingOf a b c d e f g h i = record { blend = a; channel = b; count = c; k = d; m = e; j = f; «live_count» = g; «sample_rate» = h; live = i }

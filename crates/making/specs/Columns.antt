@@ -1,5 +1,7 @@
 -- Arrays as the code holds them on the way to a voice. Cited by private functions only.
+use Prim.Native.Nat.{ℕ}
 use mathlib.Core.List.{List, _++_, map}
+use mathlib.Core.Option.{Option, some, none}
 use lib.Ieee.{Float}
 use Rattle.table.specs.Table.{PitchEntry}
 use Rattle.float.specs.F32.{nearest}
@@ -8,6 +10,7 @@ use Rattle.filters.specs.Biquad.{noiseBand}
 use Rattle.making.specs.Making.{f32, gainOf, mainlobeKey, noiseGainKey, bandFloats}
 use Rattle.filters.specs.Band.{zeroCoeffs, bandCompensation}
 use Rattle.making.specs.declared.fill.Columns.{Columns}
+use Rattle.making.specs.declared.fill.Slot.{Slot}
 use Rattle.making.specs.declared.init.Bands.{Bands}
 
 -- what each sorted entry has one of
@@ -29,4 +32,10 @@ bandsFrom centres rate = record {
 -- both laid one after the other, as a voice has them
 abbrev pub listsFrom : Columns → Bands → List Float
 listsFrom cols bands =
-    cols .«f0_hz» ++ (cols .stretch ++ (cols .«mainlobe_gain» ++ (cols .«noise_gain» ++ (bandFloats (bands .coeffs) ++ bands .compensation))))
+    cols .«f0_hz»
+    ++ (cols .stretch ++ (cols .«mainlobe_gain» ++ (cols .«noise_gain» ++ (bandFloats (bands .coeffs) ++ bands .compensation))))
+
+-- the channel that a slot holds
+abbrev pub slotOption : Slot → Option ℕ
+slotOption (Slot.Channel c) = some c
+slotOption Slot.Empty = none

@@ -1,5 +1,4 @@
 -- What the answers of `make` mean: each has its question's number and the values that it names (0 where it names none).
-use Prim.Native.Nat.{ℕ}
 use mathlib.Core.List.{List}
 use lib.Ieee.{Float}
 use Rattle.wire.specs.Parse.{Refusal, refusal}

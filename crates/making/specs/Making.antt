@@ -1,5 +1,5 @@
 -- Making a voice: what a table's entries become, and questions 8 to 12. (1 to 7 are the table's.)
-use Prim.Native.Nat.{ℕ, zero, suc, _+_, _*_, _/_, _%_, max, min}
+use Prim.Native.Nat.{ℕ, zero, suc, _+_, _/_, _%_, max, min}
 use mathlib.Core.List.{List, [], _∷_, _++_, map}
 use mathlib.Core.Bool.{Bool, true, false, _&&_, _||_}
 use mathlib.Core.Option.{Option, some, none}
@@ -169,7 +169,7 @@ freshLists vs rate centres =
     ++ (bandFloats (padded 16 zeroCoeffs (map (λ c. noiseBand c rate) centres))
     ++ padded 16 (nearest 0 1) (map (λ c. bandCompensation c rate) centres)))))
 
--- what an accepted making answers: the numbers; of the entries kept, sorted by pitch, the short lists and the coefficients; the state at first
+-- what an accepted making answers: its numbers; of the entries kept, sorted by pitch, the short lists and the coefficients; the first state
 unfoldable pub freshVoice : Kind → List PitchEntry → Float → List Float → Voice
 freshVoice k es rate centres =
     let vs = voiceEntries k es in
@@ -298,4 +298,5 @@ pub record Made : Type 0 where
 unfoldable pub makeOf : Making → Made
 makeOf m =
     let q = makeQuestion m in
-    record { refusal = q; voice = accepted (q .number) (freshVoice (m .kind) (entriesOf (decode (m .image))) (m .rate) (m .centres)) blankVoice }
+    let fresh = freshVoice (m .kind) (entriesOf (decode (m .image))) (m .rate) (m .centres) in
+    record { refusal = q; voice = accepted (q .number) fresh blankVoice }

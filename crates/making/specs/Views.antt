@@ -1,37 +1,16 @@
 -- Entries of a table where they stand in an image, held as their views. Cited by private functions only.
 use Prim.Native.Nat.{ℕ, suc}
-use mathlib.Core.List.{List, [], _∷_, map}
-use lib.ListN.{take}
+use mathlib.Core.List.{List, [], _∷_}
 use lib.Ieee.{Float, lt}
 use Rattle.wire.specs.Parse.{Refusal, refusal, pick}
 use Rattle.table.specs.declared.entry.EntryView.{EntryView}
 use Rattle.table.specs.declared.desk.Kind.{Kind}
 use Rattle.table.specs.Table.{PitchEntry}
-use Rattle.table.specs.View.{entryAt}
+pub use Rattle.table.specs.Views.{viewed, noView}
 use Rattle.table.specs.Desk.{bandCount}
 use Rattle.voice.specs.Voice.{rateOk}
 use Rattle.making.specs.Making.{f32, askMaking, channelFound, centresOk}
 use Rattle.making.specs.declared.values.ValuesAnswer.{ValuesAnswer}
-
--- the entries that the first n views are of
-abbrev pub viewed : List ℕ → List EntryView → ℕ → List PitchEntry
-viewed s views n = map (entryAt s) (take n views)
-
--- a view of nothing: all 0; it is also what a view past the end of a list is
-abbrev pub noView : EntryView
-noView = record {
-  «f0_hz» = 0;
-  stretch = 0;
-  «m_partials» = 0;
-  «k_channels» = 0;
-  «j_noise» = 0;
-  coefficients = 0;
-  pairs = 0;
-  «partials_at» = 0;
-  «coefficients_at» = 0;
-  «pairs_at» = 0;
-  end = 0;
-}
 
 -- what follows the values' answer: refusal 9 with the index, or the rest
 abbrev pub valuesThen : ValuesAnswer → Refusal → Refusal

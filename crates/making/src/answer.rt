@@ -8,7 +8,6 @@ ghost use lib.Dec.{eqb};
 ghost use lib.Ieee.Scale.{finite};
 ghost use Rattle.table.specs.Table.{hasChannel};
 ghost use Rattle.table.specs.Desk.{bandCount};
-ghost use Rattle.voice.specs.Voice.{rateOk};
 ghost use Rattle.making.specs.Making.{any, all, sizesOk, channelFound, centresOk, tableQuestion};
 ghost use Rattle.making.specs.Views.{viewed, laterQuestion};
 ghost use Rattle.making.specs.MakeAnswer.{makeRefusal};
@@ -19,6 +18,7 @@ use table::desk::Kind;
 use table::entry::EntryView;
 use table::entry::has_channel;
 use table::error::CoeffTableCodecError;
+use voice::rate_ok;
 
 pub enum MakeAnswer {
     Done, // 0
@@ -73,16 +73,6 @@ fn channel_found(views: [EntryView; 16], count: usize, kind: Kind) -> bool
         }
         Kind::Blend => true,
     }
-}
-
-// Question 11.
-fn rate_ok(rate: f32) -> bool
-    ensures { λ r. ⌜ r ≡ rateOk rate ⌝ }
-{
-    if 8000.0 <= rate {
-        return rate <= 192000.0;
-    }
-    false
 }
 
 fn all_finite(centres: &[f32]) -> bool

@@ -1,19 +1,31 @@
-// How many channels and phases a voice has.
+// How many bands, channels and phases a voice has.
 ghost use mathlib.Core.Path.{_≡_};
-ghost use Prim.Native.Nat.{ℕ, _≤_, max};
+ghost use Prim.Native.Nat.{ℕ, _≤_};
 ghost use mathlib.Core.List.{List};
 ghost use Rattle.table.specs.View.{entryAt};
+ghost use Rattle.table.specs.Desk.{bandCount};
 ghost use Rattle.making.specs.Making.{mostChannels, channelCount, reach, reachIn, phasesFor, phaseCount};
 ghost use Rattle.making.specs.Views.{viewed};
 use crate::coeffs::partial_coeff;
 use table::desk::Kind;
+use table::desk::bands_of;
+use table::desk::larger;
 use table::entry::EntryView;
 use table::entry::has_channel;
 
-fn larger(a: u32, b: u32) -> u32
-    ensures { λ r. ⌜ r ≡ max a b ⌝ }
+// The largest band count that an entry gives the voice.
+pub fn band_count(views: [EntryView; 16], count: usize, kind: Kind) -> u32
+    requires { ⌜ count ≤ 16 ⌝ }
+    ensures { λ r. ⌜ ((s : List ℕ) → r ≡ bandCount kind (viewed s views count)) ⌝ }
 {
-    if a < b { b } else { a }
+    let mut best: u32 = 0;
+    let mut i = 0;
+    while i < count {
+        let v = views[i];
+        best = larger(best, bands_of(kind, v));
+        i += 1;
+    }
+    best
 }
 
 fn most_channels(views: [EntryView; 16], count: usize) -> u32

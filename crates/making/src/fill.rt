@@ -6,7 +6,7 @@ ghost use Rattle.table.specs.View.{entryAt};
 ghost use Rattle.voice.specs.Lists.{upTo};
 ghost use Rattle.making.specs.Making.{all, sizesOk, partialCoeff, noiseCoeff, inSlot, slotChannel, partialPlace, noisePlace};
 ghost use Rattle.making.specs.Views.{viewed};
-ghost use Rattle.making.specs.Columns.{columnsOf};
+ghost use Rattle.making.specs.Columns.{columnsOf, slotOption};
 use crate::coeffs::mainlobe_gain;
 use crate::coeffs::noise_coeff;
 use crate::coeffs::noise_gain;
@@ -46,24 +46,39 @@ pub fn columns_of(s: &[u8], views: [EntryView; 16], count: usize) -> Columns
     }
 }
 
+// What a slot of an entry holds: a channel, or nothing.
+pub enum Slot {
+    Channel(u32),
+    Empty,
+}
+
+// Slot q: a single voice has its channel in the first; a blend of n channels has channel q in slot q.
+fn slot_channel(kind: Kind, n: u32, q: u32) -> Slot
+    ensures { λ r. ⌜ slotOption r ≡ slotChannel kind n q ⌝ }
+{
+    match kind {
+        Kind::Single(channel) => {
+            if q == 0 {
+                return Slot::Channel(channel);
+            }
+            Slot::Empty
+        }
+        Kind::Blend => {
+            if q < n {
+                return Slot::Channel(q);
+            }
+            Slot::Empty
+        }
+    }
+}
+
 // What stands at place y of an entry's 128: slot y / 32, partial y % 32.
 fn partial_at(s: &[u8], v: EntryView, kind: Kind, n: u32, y: u32) -> f32
     ensures { λ r. ⌜ r ≡ inSlot (λ c. partialCoeff (entryAt (now (s .entry)) v) c (y % 32)) (slotChannel kind n (y / 32 % 4)) ⌝ }
 {
-    let q = y / 32 % 4;
-    match kind {
-        Kind::Single(channel) => {
-            if q == 0 {
-                return partial_coeff(s, v, channel, y % 32);
-            }
-            0.0
-        }
-        Kind::Blend => {
-            if q < n {
-                return partial_coeff(s, v, q, y % 32);
-            }
-            0.0
-        }
+    match slot_channel(kind, n, y / 32 % 4) {
+        Slot::Channel(c) => partial_coeff(s, v, c, y % 32),
+        Slot::Empty => 0.0,
     }
 }
 
@@ -87,20 +102,9 @@ fn noise_at(s: &[u8], v: EntryView, kind: Kind, n: u32, y: u32) -> f32
     requires { ⌜ v .«m_partials» ≤ 32 ⌝ }
     ensures { λ r. ⌜ r ≡ inSlot (λ c. noiseCoeff (entryAt (now (s .entry)) v) c (y % 16)) (slotChannel kind n (y / 16 % 4)) ⌝ }
 {
-    let q = y / 16 % 4;
-    match kind {
-        Kind::Single(channel) => {
-            if q == 0 {
-                return noise_coeff(s, v, channel, y % 16);
-            }
-            0.0
-        }
-        Kind::Blend => {
-            if q < n {
-                return noise_coeff(s, v, q, y % 16);
-            }
-            0.0
-        }
+    match slot_channel(kind, n, y / 16 % 4) {
+        Slot::Channel(c) => noise_coeff(s, v, c, y % 16),
+        Slot::Empty => 0.0,
     }
 }
 

@@ -10,7 +10,6 @@ mod lists;
 mod live;
 mod making;
 mod values;
-mod views;
 
 pub use answer::MakeAnswer;
 pub use making::MadeVoice;

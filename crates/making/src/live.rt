@@ -46,7 +46,8 @@ fn live_among(s: &[u8], views: [EntryView; 16], count: usize, n: u32, b: u32) ->
 }
 
 fn is_live(s: &[u8], views: [EntryView; 16], count: usize, kind: Kind, n: u32, b: u32) -> bool
-    requires { ⌜ count ≤ 16 ⌝ ∗ ⌜ all sizesOk (viewed (now s) views count) ≡ true ⌝ ∗ ⌜ b < 16 ⌝ ∗ ⌜ n ≡ channelCount kind (viewed (now s) views count) ⌝ }
+    requires { ⌜ count ≤ 16 ⌝ ∗ ⌜ all sizesOk (viewed (now s) views count) ≡ true ⌝ ∗ ⌜ b < 16 ⌝
+        ∗ ⌜ n ≡ channelCount kind (viewed (now s) views count) ⌝ }
     ensures { λ r. ⌜ r ≡ isLive kind (viewed (now (s .entry)) views count) b ⌝ }
 {
     match kind {
@@ -81,7 +82,8 @@ pub fn live_bands(
     n: u32,
     j: u32,
 ) -> Live
-    requires { ⌜ count ≤ 16 ⌝ ∗ ⌜ all sizesOk (viewed (now s) views count) ≡ true ⌝ ∗ ⌜ j ≤ 16 ⌝ ∗ ⌜ n ≡ channelCount kind (viewed (now s) views count) ⌝ }
+    requires { ⌜ count ≤ 16 ⌝ ∗ ⌜ all sizesOk (viewed (now s) views count) ≡ true ⌝ ∗ ⌜ j ≤ 16 ⌝
+        ∗ ⌜ n ≡ channelCount kind (viewed (now s) views count) ⌝ }
     ensures { λ r. ⌜ r ≡ liveOf (liveBands kind (viewed (now (s .entry)) views count) j) ⌝ }
 {
     let mut live = Live {

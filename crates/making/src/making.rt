@@ -12,6 +12,7 @@ ghost use Rattle.making.specs.MakeAnswer.{makeRefusal, madeOf, tableMade
 use crate::answer::MakeAnswer;
 use crate::answer::is_done;
 use crate::answer::question;
+use crate::counts::band_count;
 use crate::counts::channel_count;
 use crate::counts::phase_count;
 use crate::fill::columns_of;
@@ -21,18 +22,15 @@ use crate::gather::gather;
 use crate::init::init;
 use crate::lists::lists_of;
 use crate::live::live_bands;
-use crate::views::views_of;
 use filters::Rng;
-use table::desk::DeskRead;
 use table::desk::Kind;
-use table::desk::for_voice;
 use table::entry::EntryView;
-use table::start::entries_start;
+use table::read::Reading;
+use table::views::views_of;
 use voice::Setting;
 use voice::State;
 use voice::Voice;
 use voice::first_state;
-use wire::cursor::Cursor;
 
 // The answer, and the voice: the blank one where the making is refused.
 pub struct MadeVoice {
@@ -94,7 +92,8 @@ fn fresh(
     sample_rate: f32,
     centres: &[f32],
 ) -> Voice
-    requires { ⌜ count ≤ 16 ⌝ ∗ ⌜ all sizesOk (viewed (now image) views count) ≡ true ⌝ ∗ ⌜ j ≡ bandCount kind (viewed (now image) views count) ⌝ ∗ ⌜ rateOk «sample_rate» ≡ true ⌝ ∗ ⌜ length (now centres) ≡ j ⌝ }
+    requires { ⌜ count ≤ 16 ⌝ ∗ ⌜ all sizesOk (viewed (now image) views count) ≡ true ⌝
+        ∗ ⌜ j ≡ bandCount kind (viewed (now image) views count) ⌝ ∗ ⌜ rateOk «sample_rate» ≡ true ⌝ ∗ ⌜ length (now centres) ≡ j ⌝ }
     ensures { λ r. ⌜ r ≡ freshVoice kind (viewed (now (image .entry)) views count) «sample_rate» (now (centres .entry)) ⌝ }
 {
     let k = channel_count(views, count, kind);
@@ -140,13 +139,13 @@ fn make_from(
     views: [EntryView; 16],
     count: usize,
     kind: Kind,
-    j: u32,
     sample_rate: f32,
     centres: &[f32],
 ) -> MadeVoice
-    requires { ⌜ count ≤ 16 ⌝ ∗ ⌜ ((s : List ℕ) → j ≡ bandCount kind (viewed s views count)) ⌝ }
+    requires { ⌜ count ≤ 16 ⌝ }
     ensures { λ r. ⌜ madeOf r ≡ tableMade kind (viewed (now (image .entry)) views count) «sample_rate» (now (centres .entry)) ⌝ }
 {
+    let j = band_count(views, count, kind);
     let answer = question(image, views, count, kind, j, sample_rate, centres);
     if is_done(answer) {
         return MadeVoice {
@@ -161,16 +160,16 @@ fn make_from(
 pub fn make(kind: Kind, image: &[u8], sample_rate: f32, centres: &[f32]) -> MadeVoice
     ensures { λ r. ⌜ madeOf r ≡ makeOf (making kind (now (image .entry)) «sample_rate» (now (centres .entry))) ⌝ }
 {
-    match for_voice(image, kind) {
-        DeskRead::Refused(e) => refuse(MakeAnswer::Refused(e)),
-        DeskRead::Desk(d) => {
-            let start = entries_start(image);
-            let count = start.count;
+    let read = views_of(image);
+    let reading = read.reading;
+    match reading {
+        Reading::Refused(e) => refuse(MakeAnswer::Refused(e)),
+        Reading::Accepted(count, _) => {
             if 16 < count {
                 return refuse(MakeAnswer::TooLarge);
             }
-            let views = views_of(image, Cursor { at: start.at }, count);
-            make_from(image, views, count, kind, d.bands, sample_rate, centres)
+            let views = read.views;
+            make_from(image, views, count, kind, sample_rate, centres)
         }
     }
 }

@@ -5,36 +5,19 @@ ghost use lib.Ieee.Scale.{finite};
 ghost use Rattle.wire.specs.Parse.{Refusal};
 ghost use Rattle.table.specs.View.{entryAt};
 ghost use Rattle.table.specs.Answer.{foundBits};
-ghost use Rattle.voice.specs.Voice.{pitchOk, stretchOk};
 ghost use Rattle.making.specs.Making.{f32, all, presentFinite, valuesOk, askValues};
 ghost use Rattle.making.specs.Views.{viewed, valuesThen};
 use table::Found;
 use table::entry::EntryView;
 use table::entry::metadata_value;
 use table::entry::nth_coefficient;
+use voice::pitch_ok;
+use voice::stretch_ok;
 
 // All values are good, or the index of the first entry with a bad one.
 pub enum ValuesAnswer {
     Good,
     Bad(usize),
-}
-
-fn pitch_ok(f: f32) -> bool
-    ensures { λ r. ⌜ r ≡ pitchOk f ⌝ }
-{
-    if 0.0 < f {
-        return f <= 20000.0;
-    }
-    false
-}
-
-fn stretch_ok(x: f32) -> bool
-    ensures { λ r. ⌜ r ≡ stretchOk x ⌝ }
-{
-    if 0.0 <= x {
-        return x <= 4.0;
-    }
-    false
 }
 
 fn found_ok(f: Found) -> bool

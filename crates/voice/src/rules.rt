@@ -25,19 +25,19 @@ fn phase_ok(p: f32) -> bool
     both(0.0 <= p, p < 1.0)
 }
 
-fn pitch_ok(f: f32) -> bool
+pub fn pitch_ok(f: f32) -> bool
     ensures { λ r. ⌜ r ≡ pitchOk f ⌝ }
 {
     both(0.0 < f, f <= 20000.0)
 }
 
-fn stretch_ok(s: f32) -> bool
+pub fn stretch_ok(s: f32) -> bool
     ensures { λ r. ⌜ r ≡ stretchOk s ⌝ }
 {
     both(0.0 <= s, s <= 4.0)
 }
 
-fn rate_ok(rate: f32) -> bool
+pub fn rate_ok(rate: f32) -> bool
     ensures { λ r. ⌜ r ≡ rateOk rate ⌝ }
 {
     both(8000.0 <= rate, rate <= 192000.0)

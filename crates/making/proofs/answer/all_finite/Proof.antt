@@ -1,5 +1,5 @@
-use mathlib.Core.Path.{_≡_, refl, sym, ap, _∙_}
-use Prim.Native.Nat.{ℕ, _≤_, _-_, _+_, _<_, max}
+use mathlib.Core.Path.{_≡_, refl, sym, _∙_}
+use Prim.Native.Nat.{_≤_, _-_}
 use native.Mathlib.Omega.{arith}
 use lib.ListN.{length}
 use lib.ListN.{drop}
@@ -11,9 +11,6 @@ use Rattle.making.proofs.MakeLists.{all-drop-go, all-drop-no, all-drop-
 use borrow.Author.Needs.{needs}
 use Rattle.making.proofs.answer.all_finite.Statement.{statement}
 use Rattle.making.proofs.answer.all_finite.Tie as tie
-use Rattle.making.proofs.answer.all_finite.Reads as reads
-use Rattle.making.proofs.answer.all_finite.Lts as lts
-use Rattle.float.proofs.is_finite.Reads as is-finite-reads
 
 abbrev Inv-loop : tie.InvT-loop
 Inv-loop centres i₀ i = (i ≤ length centres) × (all finite (drop i centres) ≡ all finite centres)

@@ -1,18 +1,15 @@
-use mathlib.Core.Path.{_≡_, refl, sym, ap, _∙_}
-use Prim.Native.Nat.{ℕ, _≤_, _-_, _+_, _<_, max}
+use mathlib.Core.Path.{_≡_, refl, sym, _∙_}
+use Prim.Native.Nat.{ℕ, _≤_, _-_}
 use native.Mathlib.Omega.{arith}
 use lib.ListN.{length}
 use mathlib.Core.List.{List}
 use Rattle.making.specs.Views.{viewed}
-use Rattle.table.specs.Table.{PitchEntry, hasChannel}
+use Rattle.table.specs.Table.{hasChannel}
 use Rattle.making.specs.Making.{any}
 use Rattle.making.proofs.ViewLaws.{rest, any-go, any-yes, any-end}
 use borrow.Author.Needs.{needs}
 use Rattle.making.proofs.answer.any_channel.Statement.{statement}
 use Rattle.making.proofs.answer.any_channel.Tie as tie
-use Rattle.making.proofs.answer.any_channel.Reads as reads
-use Rattle.making.proofs.answer.any_channel.Lts as lts
-use Rattle.table.proofs.entry.has_channel.Reads as has-channel-reads
 
 abbrev Inv-loop : tie.InvT-loop
 Inv-loop count channel views i₀ i = (i ≤ count) × ((s : List ℕ) → any (λ e. hasChannel e channel) (rest s views i count) ≡ any (λ e. hasChannel e channel) (viewed s views count))

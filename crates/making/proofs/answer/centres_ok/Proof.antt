@@ -1,11 +1,8 @@
-use mathlib.Core.Path.{_≡_, refl, sym, ap, _∙_}
+use mathlib.Core.Path.{refl}
 use borrow.Author.Tests.{eq-eqb, ne-eqb}
 use borrow.Author.Needs.{needs}
 use Rattle.making.proofs.answer.centres_ok.Statement.{statement}
 use Rattle.making.proofs.answer.centres_ok.Tie as tie
-use Rattle.making.proofs.answer.centres_ok.Reads as reads
-use Rattle.making.proofs.answer.centres_ok.Lts as lts
-use Rattle.making.proofs.answer.all_finite.Reads as all-finite-reads
 
 -- src/answer.rt:106:9
 returns : tie.Need-returns

@@ -1,15 +1,11 @@
-use mathlib.Core.Path.{_≡_, refl, sym, ap, _∙_}
-use Prim.Native.Nat.{ℕ, _≤_, _-_, _+_, _*_, _<_, max}
+use mathlib.Core.Path.{_≡_, refl}
 use native.Mathlib.Omega.{arith}
 use lib.ListN.{length}
-use Rattle.making.proofs.GatherLaws.{viewed-length}
+use Rattle.table.proofs.ViewsLaws.{viewed-length}
 use borrow.Author.Tests.{eq-eqb, ne-eqb}
 use borrow.Author.Needs.{needs}
 use Rattle.making.proofs.answer.channel_found.Statement.{statement}
 use Rattle.making.proofs.answer.channel_found.Tie as tie
-use Rattle.making.proofs.answer.channel_found.Reads as reads
-use Rattle.making.proofs.answer.channel_found.Lts as lts
-use Rattle.making.proofs.answer.any_channel.Reads as any-channel-reads
 
 -- src/answer.rt:68:22
 enum-known-kind : tie.Need-enum-known-kind

@@ -1,10 +1,8 @@
-use mathlib.Core.Path.{_≡_, refl, sym, ap, _∙_}
+use mathlib.Core.Path.{refl}
 use Rattle.making.proofs.CoeffLaws.{refused-number}
 use borrow.Author.Needs.{needs}
 use Rattle.making.proofs.answer.is_done.Statement.{statement}
 use Rattle.making.proofs.answer.is_done.Tie as tie
-use Rattle.making.proofs.answer.is_done.Reads as reads
-use Rattle.making.proofs.answer.is_done.Lts as lts
 
 -- src/answer.rt:37:29
 enum-told : tie.Need-enum-told

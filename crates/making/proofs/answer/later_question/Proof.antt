@@ -1,13 +1,8 @@
-use mathlib.Core.Path.{_≡_, refl, sym, ap, _∙_}
+use mathlib.Core.Path.{refl, sym, _∙_}
 use borrow.Author.Tests.{not-true, not-false}
 use borrow.Author.Needs.{needs}
 use Rattle.making.proofs.answer.later_question.Statement.{statement}
 use Rattle.making.proofs.answer.later_question.Tie as tie
-use Rattle.making.proofs.answer.later_question.Reads as reads
-use Rattle.making.proofs.answer.later_question.Lts as lts
-use Rattle.making.proofs.answer.centres_ok.Reads as centres-ok-reads
-use Rattle.making.proofs.answer.channel_found.Reads as channel-found-reads
-use Rattle.making.proofs.answer.rate_ok.Reads as rate-ok-reads
 
 -- src/answer.rt:123:9
 channel-found-requires : tie.Need-channel-found-requires

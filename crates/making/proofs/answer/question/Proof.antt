@@ -10,11 +10,6 @@ use Rattle.making.proofs.GatherLaws.{limits-are}
 use borrow.Author.Needs.{needs}
 use Rattle.making.proofs.answer.question.Statement.{statement}
 use Rattle.making.proofs.answer.question.Tie as tie
-use Rattle.making.proofs.answer.question.Reads as reads
-use Rattle.making.proofs.answer.question.Lts as lts
-use Rattle.making.proofs.answer.later_question.Reads as later-question-reads
-use Rattle.making.proofs.limits.sizes_ok.Reads as sizes-ok-reads
-use Rattle.making.proofs.values.first_bad.Reads as first-bad-reads
 
 -- src/answer.rt:148:9
 sizes-ok-requires : tie.Need-sizes-ok-requires

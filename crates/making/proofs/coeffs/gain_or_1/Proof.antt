@@ -1,11 +1,8 @@
-use mathlib.Core.Path.{_≡_, refl, sym, ap, _∙_}
+use mathlib.Core.Path.{refl}
 use lib.Ieee.{ofBits, round}
 use borrow.Author.Needs.{needs}
 use Rattle.making.proofs.coeffs.gain_or_1.Statement.{statement}
 use Rattle.making.proofs.coeffs.gain_or_1.Tie as tie
-use Rattle.making.proofs.coeffs.gain_or_1.Reads as reads
-use Rattle.making.proofs.coeffs.gain_or_1.Lts as lts
-use Rattle.float.proofs.from_bits.Reads as from-bits-reads
 
 -- src/coeffs.rt:38:21
 enum-known-f : tie.Need-enum-known-f

@@ -1,13 +1,8 @@
-use mathlib.Core.Path.{_≡_, refl, sym, ap, _∙_}
-use Prim.Native.Nat.{ℕ, _≤_, _-_, _+_, _*_, _<_, max}
+use mathlib.Core.Path.{refl}
 use native.Mathlib.Omega.{arith}
-use lib.ListN.{length}
 use borrow.Author.Needs.{needs}
 use Rattle.making.proofs.counts.channel_count.Statement.{statement}
 use Rattle.making.proofs.counts.channel_count.Tie as tie
-use Rattle.making.proofs.counts.channel_count.Reads as reads
-use Rattle.making.proofs.counts.channel_count.Lts as lts
-use Rattle.making.proofs.counts.most_channels.Reads as most-channels-reads
 
 -- src/counts.rt:38:28
 enum-told : tie.Need-enum-told

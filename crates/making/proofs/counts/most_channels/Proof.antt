@@ -1,7 +1,7 @@
 use lib.ListN.{length}
 use Rattle.making.specs.Views.{noView}
 use Rattle.making.proofs.ViewLaws.{rest, rest-go, rest-end}
-use mathlib.Core.Path.{_≡_, refl, sym, ap, _∙_}
+use mathlib.Core.Path.{_≡_, ap}
 use Prim.Native.Nat.{ℕ, _≤_, _-_, max}
 use mathlib.Core.List.{List}
 use native.Mathlib.Omega.{arith}
@@ -11,9 +11,6 @@ use Rattle.making.proofs.ViewLaws.{rest, rest-go, rest-end}
 use borrow.Author.Needs.{needs}
 use Rattle.making.proofs.counts.most_channels.Statement.{statement}
 use Rattle.making.proofs.counts.most_channels.Tie as tie
-use Rattle.making.proofs.counts.most_channels.Reads as reads
-use Rattle.making.proofs.counts.most_channels.Lts as lts
-use Rattle.making.proofs.counts.larger.Reads as larger-reads
 
 abbrev Inv-loop : tie.InvT-loop
 Inv-loop count views best₀ i₀ best i = (i ≤ count) × ((s : List ℕ) → max best (mostChannels (rest s views i count)) ≡ mostChannels (viewed s views count))

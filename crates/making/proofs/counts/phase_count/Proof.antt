@@ -1,18 +1,13 @@
-use mathlib.Core.Path.{_≡_, refl, sym, ap, _∙_}
-use Prim.Native.Nat.{ℕ, _≤_, _-_, _+_, _*_, _<_, max}
+use mathlib.Core.Path.{_≡_}
+use Prim.Native.Nat.{_≤_, _-_, max}
 use native.Mathlib.Omega.{arith}
 use lib.ListN.{length}
-use mathlib.Core.List.{List}
 use Rattle.making.specs.Views.{viewed}
 use Rattle.making.specs.Making.{phaseCount}
 use Rattle.making.proofs.ViewLaws.{rest, phases-go, phases-end}
 use borrow.Author.Needs.{needs}
 use Rattle.making.proofs.counts.phase_count.Statement.{statement}
 use Rattle.making.proofs.counts.phase_count.Tie as tie
-use Rattle.making.proofs.counts.phase_count.Reads as reads
-use Rattle.making.proofs.counts.phase_count.Lts as lts
-use Rattle.making.proofs.counts.larger.Reads as larger-reads
-use Rattle.making.proofs.counts.phases_for.Reads as phases-for-reads
 
 abbrev Inv-loop : tie.InvT-loop
 Inv-loop s count kind n views best₀ i₀ best i = (i ≤ count) × (max best (phaseCount kind n (rest s views i count)) ≡ phaseCount kind n (viewed s views count))

@@ -1,12 +1,8 @@
-use mathlib.Core.Path.{_≡_, refl, sym, ap, _∙_}
+use mathlib.Core.Path.{refl, sym, _∙_}
 use Rattle.making.proofs.CoeffLaws.{partials-are}
 use borrow.Author.Needs.{needs}
 use Rattle.making.proofs.counts.phases_for.Statement.{statement}
 use Rattle.making.proofs.counts.phases_for.Tie as tie
-use Rattle.making.proofs.counts.phases_for.Reads as reads
-use Rattle.making.proofs.counts.phases_for.Lts as lts
-use Rattle.making.proofs.counts.reach_in.Reads as reach-in-reads
-use Rattle.table.proofs.entry.has_channel.Reads as has-channel-reads
 
 -- src/counts.rt:77:22
 enum-known-kind : tie.Need-enum-known-kind

@@ -1,17 +1,12 @@
-use mathlib.Core.Path.{_≡_, refl, sym, ap, _∙_}
-use Prim.Native.Nat.{ℕ, _≤_, _-_, _+_, _*_, _<_, max}
+use mathlib.Core.Path.{_≡_, refl, _∙_}
+use Prim.Native.Nat.{_≤_, _-_}
 use native.Mathlib.Omega.{arith}
-use lib.ListN.{length}
 use Rattle.table.specs.View.{entryAt}
-use Rattle.making.specs.Making.{reachIn, reach}
+use Rattle.making.specs.Making.{reachIn}
 use Rattle.making.proofs.CoeffLaws.{reach-next, partials-are}
 use borrow.Author.Needs.{needs}
 use Rattle.making.proofs.counts.reach_in.Statement.{statement}
 use Rattle.making.proofs.counts.reach_in.Tie as tie
-use Rattle.making.proofs.counts.reach_in.Reads as reads
-use Rattle.making.proofs.counts.reach_in.Lts as lts
-use Rattle.making.proofs.counts.larger.Reads as larger-reads
-use Rattle.making.proofs.counts.reach_of.Reads as reach-of-reads
 
 abbrev Inv-loop : tie.InvT-loop
 Inv-loop s v n best₀ q₀ best q = (q ≤ n) × (best ≡ reachIn (entryAt s v) q)

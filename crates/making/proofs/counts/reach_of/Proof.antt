@@ -1,7 +1,6 @@
 use mathlib.Core.Path.{_≡_, refl, sym, ap, _∙_}
-use Prim.Native.Nat.{ℕ, _≤_, _-_, _+_, _<_, max}
+use Prim.Native.Nat.{_≤_}
 use native.Mathlib.Omega.{arith}
-use lib.ListN.{length}
 use lib.Ieee.{ofBits, round}
 use Rattle.table.specs.View.{entryAt}
 use Rattle.making.specs.Making.{reach, isNonzero}
@@ -9,9 +8,6 @@ use Rattle.making.proofs.CoeffLaws.{reach-hit, reach-miss}
 use borrow.Author.Needs.{needs}
 use Rattle.making.proofs.counts.reach_of.Statement.{statement}
 use Rattle.making.proofs.counts.reach_of.Tie as tie
-use Rattle.making.proofs.counts.reach_of.Reads as reads
-use Rattle.making.proofs.counts.reach_of.Lts as lts
-use Rattle.making.proofs.coeffs.partial_coeff.Reads as partial-coeff-reads
 
 abbrev Inv-loop : tie.InvT-loop
 Inv-loop s v c n i₀ i = (i ≤ n) × (reach (entryAt s v) c i ≡ reach (entryAt s v) c n)

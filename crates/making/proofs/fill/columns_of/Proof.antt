@@ -1,8 +1,7 @@
-use mathlib.Core.Path.{_≡_, refl, sym, ap, _∙_}
-use Prim.Native.Nat.{ℕ, _≤_, _-_, _+_, _*_, _<_, max}
+use mathlib.Core.Path.{_≡_, refl}
+use Prim.Native.Nat.{_≤_, _-_}
 use native.Mathlib.Omega.{arith}
 use lib.ListN.{length}
-use mathlib.Core.List.{List}
 use Rattle.making.specs.Views.{viewed}
 use lib.Ieee.{ofBits, round}
 use mathlib.Core.List.{map}
@@ -16,11 +15,6 @@ use Rattle.making.proofs.MakeLists.{pad-again-2}
 use borrow.Author.Needs.{needs}
 use Rattle.making.proofs.fill.columns_of.Statement.{statement}
 use Rattle.making.proofs.fill.columns_of.Tie as tie
-use Rattle.making.proofs.fill.columns_of.Reads as reads
-use Rattle.making.proofs.fill.columns_of.Lts as lts
-use Rattle.float.proofs.from_bits.Reads as from-bits-reads
-use Rattle.making.proofs.coeffs.mainlobe_gain.Reads as mainlobe-gain-reads
-use Rattle.making.proofs.coeffs.noise_gain.Reads as noise-gain-reads
 
 abbrev Inv-loop : tie.InvT-loop
 Inv-loop s count views pitches₀ stretches₀ mainlobes₀ noises₀ i₀ pitches stretches mainlobes noises i = (i ≤ count) × (pitches ≡ padded 16 (nearest 0 1) (map (λ e. f32 (e .f0Hz)) (viewed s views i))) × (stretches ≡ padded 16 (nearest 0 1) (map (λ e. f32 (e .stretch)) (viewed s views i))) × (mainlobes ≡ padded 16 (nearest 0 1) (map (gainOf mainlobeKey) (viewed s views i))) × (noises ≡ padded 16 (nearest 0 1) (map (gainOf noiseGainKey) (viewed s views i)))

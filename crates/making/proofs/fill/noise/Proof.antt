@@ -1,19 +1,18 @@
 use lib.ListN.{getD}
 use Rattle.making.specs.Views.{noView}
-use Prim.Native.Nat.{ℕ, _/_, _≤_, _-_, _+_, _*_, _<_, max}
+use Prim.Native.Nat.{_/_, _≤_, _-_, _*_}
 use Rattle.making.specs.Making.{sizesOk}
 use Rattle.making.proofs.CoeffLaws.{sizes-are}
 use Rattle.making.proofs.GatherLaws.{all-view}
 use lib.Dec.{lit<}
-use mathlib.Core.Path.{_≡_, refl, sym, ap, _∙_}
-use Prim.Native.Nat.{ℕ, _≤_, _-_, _+_, _*_, _<_, max}
+use mathlib.Core.Path.{_≡_, refl}
+use Prim.Native.Nat.{_≤_, _-_, _*_}
 use native.Mathlib.Omega.{arith}
 use lib.ListN.{length}
-use mathlib.Core.List.{List}
 use Rattle.making.specs.Views.{viewed}
 use lib.Ieee.{ofBits, round}
 use mathlib.Core.List.{_++_}
-use lib.ListN.{drop, length-set, length-replicate}
+use lib.ListN.{drop, length-set}
 use Rattle.float.specs.F32.{nearest}
 use Rattle.voice.specs.Lists.{upTo}
 use Rattle.making.specs.Making.{noisePlace}
@@ -23,9 +22,6 @@ use Rattle.making.proofs.PlaceLaws.{row-of, noise-is, noise-none}
 use borrow.Author.Needs.{needs}
 use Rattle.making.proofs.fill.noise.Statement.{statement}
 use Rattle.making.proofs.fill.noise.Tie as tie
-use Rattle.making.proofs.fill.noise.Reads as reads
-use Rattle.making.proofs.fill.noise.Lts as lts
-use Rattle.making.proofs.fill.noise_at.Reads as noise-at-reads
 
 abbrev Inv-loop : tie.InvT-loop
 Inv-loop s count kind n views out₀ end x₀ out x = (x ≤ end) × (length out ≡ 1024) × (out ≡ upTo (noisePlace kind n (viewed s views count)) x ++ drop x out₀)

@@ -1,24 +1,20 @@
-use mathlib.Core.Path.{_≡_, refl, sym, ap, _∙_}
-use Prim.Native.Nat.{ℕ, _≤_, _-_, _+_, _*_, _<_, max}
+use mathlib.Core.Path.{_≡_, refl}
+use Prim.Native.Nat.{_≤_, _-_, _*_}
 use native.Mathlib.Omega.{arith}
 use lib.ListN.{length}
-use mathlib.Core.List.{List}
 use Rattle.making.specs.Views.{viewed}
 use lib.Ieee.{ofBits, round}
 use mathlib.Core.List.{_++_}
-use lib.ListN.{drop, length-set, length-replicate}
+use lib.ListN.{drop, length-set}
 use Rattle.float.specs.F32.{nearest}
 use Rattle.voice.specs.Lists.{upTo}
 use Rattle.making.specs.Making.{partialPlace}
 use Rattle.voice.proofs.Loops.{upTo-again}
 use Rattle.making.proofs.MakeLists.{upTo-full}
-use Rattle.making.proofs.PlaceLaws.{row-of, partial-is, partial-none}
+use Rattle.making.proofs.PlaceLaws.{partial-is, partial-none}
 use borrow.Author.Needs.{needs}
 use Rattle.making.proofs.fill.partials.Statement.{statement}
 use Rattle.making.proofs.fill.partials.Tie as tie
-use Rattle.making.proofs.fill.partials.Reads as reads
-use Rattle.making.proofs.fill.partials.Lts as lts
-use Rattle.making.proofs.fill.partial_at.Reads as partial-at-reads
 
 abbrev Inv-loop : tie.InvT-loop
 Inv-loop s count kind n views out₀ end x₀ out x = (x ≤ end) × (length out ≡ 2048) × (out ≡ upTo (partialPlace kind n (viewed s views count)) x ++ drop x out₀)

@@ -1,5 +1,5 @@
-use mathlib.Core.Path.{_≡_, refl, sym, ap, _∙_}
-use Prim.Native.Nat.{ℕ, _≤_, _-_, _+_, _*_, _<_}
+use mathlib.Core.Path.{_≡_, refl, ap, _∙_}
+use Prim.Native.Nat.{_≤_, _-_}
 use native.Mathlib.Omega.{arith}
 use mathlib.Core.List.{map}
 use lib.ListN.{length, take}
@@ -15,10 +15,6 @@ use Rattle.making.proofs.MakeLists.{pad-again}
 use borrow.Author.Needs.{needs}
 use Rattle.making.proofs.init.init.Statement.{statement}
 use Rattle.making.proofs.init.init.Tie as tie
-use Rattle.making.proofs.init.init.Reads as reads
-use Rattle.making.proofs.init.init.Lts as lts
-use Rattle.making.proofs.init.zero_coeffs.Reads as zero-coeffs-reads
-use Rattle.filters.proofs.init_band.Reads as init-band-reads
 
 abbrev Inv-loop : tie.InvT-loop
 Inv-loop sample-rate centres coeffs₀ compensation₀ i₀ coeffs compensation i = (i ≤ length centres) × (coeffs ≡ padded 16 zeroCoeffs (map (λ c. noiseBand c sample-rate) (take i centres))) × (compensation ≡ padded 16 (nearest 0 1) (map (λ c. bandCompensation c sample-rate) (take i centres)))

@@ -1,10 +1,6 @@
-use mathlib.Core.Path.{_≡_, refl, sym, ap, _∙_}
 use Rattle.making.proofs.CoeffLaws.{size-yes, size-no}
-use borrow.Author.Needs.{needs}
 use Rattle.making.proofs.limits.size_ok.Statement.{statement}
 use Rattle.making.proofs.limits.size_ok.Tie as tie
-use Rattle.making.proofs.limits.size_ok.Reads as reads
-use Rattle.making.proofs.limits.size_ok.Lts as lts
 
 -- src/limits.rt:14:9
 returns : tie.Need-returns

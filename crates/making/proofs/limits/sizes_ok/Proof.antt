@@ -1,5 +1,5 @@
-use mathlib.Core.Path.{_≡_, refl, sym, ap, _∙_}
-use Prim.Native.Nat.{ℕ, _≤_, _-_, _+_, _<_, max}
+use mathlib.Core.Path.{_≡_, refl, sym, _∙_}
+use Prim.Native.Nat.{ℕ, _≤_, _-_}
 use native.Mathlib.Omega.{arith}
 use lib.ListN.{length}
 use mathlib.Core.List.{List}
@@ -10,9 +10,6 @@ use Rattle.making.proofs.ViewLaws.{rest, all-go, all-no, all-end}
 use borrow.Author.Needs.{needs}
 use Rattle.making.proofs.limits.sizes_ok.Statement.{statement}
 use Rattle.making.proofs.limits.sizes_ok.Tie as tie
-use Rattle.making.proofs.limits.sizes_ok.Reads as reads
-use Rattle.making.proofs.limits.sizes_ok.Lts as lts
-use Rattle.making.proofs.limits.size_ok.Reads as size-ok-reads
 
 abbrev Inv-loop : tie.InvT-loop
 Inv-loop count views i₀ i = (i ≤ count) × ((s : List ℕ) → all sizesOk (rest s views i count) ≡ all sizesOk (viewed s views count))

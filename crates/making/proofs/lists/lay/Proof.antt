@@ -1,17 +1,14 @@
-use mathlib.Core.Path.{_≡_, refl, sym, ap, _∙_}
-use mathlib.Core.List.{[], _∷_, _++_, append-assoc, append-nil}
-use Prim.Native.Nat.{ℕ, _≤_, _-_, _+_, _*_, _<_}
+use mathlib.Core.Path.{_≡_, ap, _∙_}
+use mathlib.Core.List.{_++_}
+use Prim.Native.Nat.{_≤_, _-_, _+_}
 use native.Mathlib.Omega.{arith}
-use native.Mathlib.Numerals.{add-one}
-use lib.ListN.{length, take, drop, getD, length-append, take-append-drop}
-use lib.Seq.{length-take-le, take-suc, take-all}
-use lib.Ieee.{Float, nan, ofBits, round}
+use lib.ListN.{take, drop}
+use lib.Seq.{take-all}
+use lib.Ieee.{nan}
 use Rattle.making.proofs.LayLaws.{laid-start, lay-again, laid-end}
 use borrow.Author.Needs.{needs}
 use Rattle.making.proofs.lists.lay.Statement.{statement}
 use Rattle.making.proofs.lists.lay.Tie as tie
-use Rattle.making.proofs.lists.lay.Reads as reads
-use Rattle.making.proofs.lists.lay.Lts as lts
 
 abbrev Inv-loop : tie.InvT-loop
 Inv-loop at lists₀ list i₀ lists i = (i ≤ 16) × (lists ≡ (take at lists₀ ++ take i list) ++ drop (at + i) lists₀)
@@ -64,10 +61,11 @@ returns : tie.Need-returns Inv-loop μ-loop
 returns c =
     let b1 = c .before in
     let b2 = b1 .before in
-    let q : b1 .loop .i ≡ 16 = omega arith in
-    (laid-end (b2 .args .t2) (b2 .args .t1) (b1 .loop .lists) (b2 .args .at) (b2 .args .at + b1 .loop .i) (b2 .args .at + 16) (omega arith)
-    (b1 .loop .inv .1 ∙ ap (λ t. (take (b2 .args .at) (b2 .args .t1) ++ t) ++ drop (b2 .args .at + b1 .loop .i) (b2 .args .t1)) (take-all (b1 .loop .i) (b2 .args .t2) (search needs))),
-    search needs)
+    let q : b1 .loop .i ≡ 16 = omega arith in (
+      laid-end (b2 .args .t2) (b2 .args .t1) (b1 .loop .lists) (b2 .args .at) (b2 .args .at + b1 .loop .i) (b2 .args .at + 16) (omega arith)
+          (b1 .loop .inv .1 ∙ ap (λ t. (take (b2 .args .at) (b2 .args .t1) ++ t) ++ drop (b2 .args .at + b1 .loop .i) (b2 .args .t1)) (take-all (b1 .loop .i) (b2 .args .t2) (search needs))),
+      search needs,
+    )
 
 pub lay-spec : {M : Type 1} → statement M
 lay-spec =

@@ -1,21 +1,16 @@
-use mathlib.Core.Path.{_≡_, refl, sym, ap, _∙_}
-use mathlib.Core.List.{List, [], _∷_, _++_, append-assoc, append-nil}
-use Prim.Native.Nat.{ℕ, _≤_, _-_, _+_, _*_, _<_}
+use mathlib.Core.Path.{_≡_, refl, ap, _∙_}
+use mathlib.Core.List.{List, _++_}
+use Prim.Native.Nat.{ℕ, _≤_, _-_, _+_, _*_}
 use native.Mathlib.Omega.{arith}
-use native.Mathlib.Numerals.{add-one}
-use lib.ListN.{length, take, drop, getD, length-append, take-append-drop}
-use lib.Seq.{length-take-le, take-suc, take-all}
-use lib.Ieee.{Float, nan, ofBits, round}
+use lib.ListN.{take, drop, getD}
+use lib.Ieee.{Float}
 use Rattle.voice.specs.Lists.{joinTo}
-use Rattle.voice.proofs.Loops.{length-joinTo}
 use Rattle.filters.specs.Band.{zeroCoeffs}
 use Rattle.making.specs.Making.{coeffFloats}
 use Rattle.making.proofs.LayLaws.{laid-start, bands-again, laid-end}
 use borrow.Author.Needs.{needs}
 use Rattle.making.proofs.lists.lay_bands.Statement.{statement}
 use Rattle.making.proofs.lists.lay_bands.Tie as tie
-use Rattle.making.proofs.lists.lay_bands.Reads as reads
-use Rattle.making.proofs.lists.lay_bands.Lts as lts
 
 abbrev Inv-loop : tie.InvT-loop
 Inv-loop lists₀ bands b₀ lists b = (b ≤ 16) × (lists ≡ (take 64 lists₀ ++ joinTo (λ b. coeffFloats (getD bands b zeroCoeffs)) b) ++ drop (64 + b * 5) lists₀)

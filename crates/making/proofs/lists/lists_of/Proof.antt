@@ -1,20 +1,15 @@
 use Rattle.making.specs.Making.{coeffFloats, bandFloats}
-use lib.ListN.{length, getD, replicate, length-replicate}
-use lib.Ieee.{Float, binary32, ofBits}
+use lib.ListN.{getD, replicate, length-replicate}
+use lib.Ieee.{binary32, ofBits}
 use native.Mathlib.Omega.{arith}
 use Rattle.making.proofs.LayLaws.{six-laid}
 use Rattle.voice.proofs.Loops.{length-joinTo}
 use Rattle.filters.specs.Band.{zeroCoeffs}
-use mathlib.Core.Path.{_≡_, refl, sym, ap, _∙_}
-use mathlib.Core.List.{List}
-use Prim.Native.Nat.{ℕ, _+_, _≤_}
+use mathlib.Core.Path.{refl, ap}
+use Prim.Native.Nat.{ℕ, _+_}
 use borrow.Author.Needs.{needs}
 use Rattle.making.proofs.lists.lists_of.Statement.{statement}
 use Rattle.making.proofs.lists.lists_of.Tie as tie
-use Rattle.making.proofs.lists.lists_of.Reads as reads
-use Rattle.making.proofs.lists.lists_of.Lts as lts
-use Rattle.making.proofs.lists.lay.Reads as lay-reads
-use Rattle.making.proofs.lists.lay_bands.Reads as lay-bands-reads
 
 -- src/lists.rt:52:9
 lay-requires : tie.Need-lay-requires
@@ -50,9 +45,9 @@ returns c =
     let b5 = b4 .before in
     let b12 = b5 .before .before .before .before .before .before .before in
     six-laid (replicate 160 (ofBits binary32 0)) (b12 .args .cols .«f0_hz») (b12 .args .cols .stretch) (b12 .args .cols .«mainlobe_gain») (b12 .args .cols .«noise_gain») (bandFloats (b12 .args .bands .coeffs)) (b12 .args .bands .compensation)
-        (b5 .lay .result) (b4 .lay2 .result) (b3 .lay3 .result) (b2 .lay4 .result) (b1 .lay-bands .result) (c .lay5 .result) 16 32 48 64 144 160
-        (b5 .lay .ensures .1) (ap (λ (n : ℕ). 16 + n) (b4 .lay2 .ensures .1)) (ap (λ (n : ℕ). 32 + n) (b3 .lay3 .ensures .1)) (ap (λ (n : ℕ). 48 + n) (b2 .lay4 .ensures .1)) (ap (λ (n : ℕ). 64 + n) (length-joinTo (λ i. coeffFloats (getD (b12 .args .bands .coeffs) i zeroCoeffs)) 5 (λ i. refl) 16)) (omega arith) (omega (arith, length-replicate 160 (ofBits binary32 0)))
-        (b5 .lay .ensures .0) (b4 .lay2 .ensures .0) (b3 .lay3 .ensures .0) (b2 .lay4 .ensures .0) (b1 .lay-bands .ensures) (c .lay5 .ensures .0)
+    (b5 .lay .result) (b4 .lay2 .result) (b3 .lay3 .result) (b2 .lay4 .result) (b1 .lay-bands .result) (c .lay5 .result) 16 32 48 64 144 160
+    (b5 .lay .ensures .1) (ap (λ (n : ℕ). 16 + n) (b4 .lay2 .ensures .1)) (ap (λ (n : ℕ). 32 + n) (b3 .lay3 .ensures .1)) (ap (λ (n : ℕ). 48 + n) (b2 .lay4 .ensures .1)) (ap (λ (n : ℕ). 64 + n) (length-joinTo (λ i. coeffFloats (getD (b12 .args .bands .coeffs) i zeroCoeffs)) 5 (λ i. refl) 16)) (omega arith) (omega (arith, length-replicate 160 (ofBits binary32 0)))
+    (b5 .lay .ensures .0) (b4 .lay2 .ensures .0) (b3 .lay3 .ensures .0) (b2 .lay4 .ensures .0) (b1 .lay-bands .ensures) (c .lay5 .ensures .0)
 
 pub lists-of-spec : {M : Type 1} → statement M
 lists-of-spec =

@@ -1,9 +1,7 @@
-use mathlib.Core.Path.{_≡_, refl, sym, ap, _∙_}
+use mathlib.Core.Path.{refl}
 use borrow.Author.Needs.{needs}
 use Rattle.making.proofs.live.add_live.Statement.{statement}
 use Rattle.making.proofs.live.add_live.Tie as tie
-use Rattle.making.proofs.live.add_live.Reads as reads
-use Rattle.making.proofs.live.add_live.Lts as lts
 
 -- src/live.rt:66:9
 mul-bands : tie.Need-mul-bands

@@ -1,4 +1,4 @@
-use mathlib.Core.Path.{_≡_, refl, sym, ap, _∙_}
+use mathlib.Core.Path.{refl, ap, _∙_}
 use Prim.Native.Nat.{ℕ}
 use Rattle.table.specs.declared.desk.Kind.{Kind}
 use Rattle.making.specs.Making.{liveAmong, channelCount}
@@ -6,9 +6,6 @@ use Rattle.making.specs.Views.{viewed}
 use borrow.Author.Needs.{needs}
 use Rattle.making.proofs.live.is_live.Statement.{statement}
 use Rattle.making.proofs.live.is_live.Tie as tie
-use Rattle.making.proofs.live.is_live.Reads as reads
-use Rattle.making.proofs.live.is_live.Lts as lts
-use Rattle.making.proofs.live.live_among.Reads as live-among-reads
 
 -- src/live.rt:53:28
 enum-told : tie.Need-enum-told

@@ -1,11 +1,10 @@
 use lib.ListN.{getD}
 use Rattle.making.specs.Views.{noView}
 use Rattle.making.proofs.ViewLaws.{rest, live-go, live-yes, live-end, all-here, all-later}
-use mathlib.Core.Path.{_≡_, refl, sym, ap, _∙_}
-use Prim.Native.Nat.{ℕ, _≤_, _-_, _+_, _*_, _<_, max}
+use mathlib.Core.Path.{_≡_, refl, sym, _∙_}
+use Prim.Native.Nat.{_≤_, _-_}
 use native.Mathlib.Omega.{arith}
 use lib.ListN.{length}
-use mathlib.Core.List.{List}
 use Rattle.making.specs.Views.{viewed}
 use mathlib.Core.Bool.{true}
 use Rattle.making.specs.Making.{all, sizesOk, liveAmong}
@@ -14,9 +13,6 @@ use Rattle.making.proofs.CoeffLaws.{sizes-are}
 use borrow.Author.Needs.{needs}
 use Rattle.making.proofs.live.live_among.Statement.{statement}
 use Rattle.making.proofs.live.live_among.Tie as tie
-use Rattle.making.proofs.live.live_among.Reads as reads
-use Rattle.making.proofs.live.live_among.Lts as lts
-use Rattle.making.proofs.live.live_in.Reads as live-in-reads
 
 abbrev Inv-loop : tie.InvT-loop
 Inv-loop s count n b views i₀ i = (i ≤ count) × (all sizesOk (rest s views i count) ≡ true) × (liveAmong (rest s views i count) n b ≡ liveAmong (viewed s views count) n b)

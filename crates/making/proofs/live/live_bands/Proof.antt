@@ -1,9 +1,7 @@
 use Rattle.making.specs.Making.{liveBands, isLive}
 use mathlib.Core.Path.{_≡_, refl, sym, ap, _∙_}
-use Prim.Native.Nat.{ℕ, _≤_, _-_, _+_, _*_, _<_, max}
+use Prim.Native.Nat.{_≤_, _-_}
 use native.Mathlib.Omega.{arith}
-use lib.ListN.{length}
-use mathlib.Core.List.{List}
 use Rattle.making.specs.Views.{viewed}
 use mathlib.Core.Bool.{Bool}
 use Rattle.making.specs.Live.{liveOf, addLive}
@@ -14,10 +12,6 @@ use Rattle.making.proofs.MakingLaws.{live-next, live-short}
 use borrow.Author.Needs.{needs}
 use Rattle.making.proofs.live.live_bands.Statement.{statement}
 use Rattle.making.proofs.live.live_bands.Tie as tie
-use Rattle.making.proofs.live.live_bands.Reads as reads
-use Rattle.making.proofs.live.live_bands.Lts as lts
-use Rattle.making.proofs.live.add_live.Reads as add-live-reads
-use Rattle.making.proofs.live.is_live.Reads as is-live-reads
 
 abbrev Inv-loop : tie.InvT-loop
 Inv-loop s views count kind n j live₀ b₀ live b = (b ≤ j) × (live ≡ liveOf (liveBands kind (viewed s views count) b))

@@ -1,7 +1,6 @@
 use mathlib.Core.Path.{_≡_, refl, sym, ap, _∙_}
-use Prim.Native.Nat.{ℕ, _≤_, _-_, _+_, _<_, max}
+use Prim.Native.Nat.{_≤_}
 use native.Mathlib.Omega.{arith}
-use lib.ListN.{length}
 use lib.Ieee.{ofBits, round}
 use Rattle.table.specs.View.{entryAt}
 use Rattle.making.specs.Making.{liveIn, isNonzero}
@@ -9,9 +8,6 @@ use Rattle.making.proofs.CoeffLaws.{live-hit, live-miss}
 use borrow.Author.Needs.{needs}
 use Rattle.making.proofs.live.live_in.Statement.{statement}
 use Rattle.making.proofs.live.live_in.Tie as tie
-use Rattle.making.proofs.live.live_in.Reads as reads
-use Rattle.making.proofs.live.live_in.Lts as lts
-use Rattle.making.proofs.coeffs.noise_coeff.Reads as noise-coeff-reads
 
 abbrev Inv-loop : tie.InvT-loop
 Inv-loop s v b n q₀ q = (q ≤ n) × (liveIn (entryAt s v) b q ≡ liveIn (entryAt s v) b n)

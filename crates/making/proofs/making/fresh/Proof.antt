@@ -1,6 +1,6 @@
 use Rattle.table.specs.Table.{PitchEntry}
 use Rattle.voice.specs.Lists.{padded, upTo}
-use Rattle.making.specs.Columns.{columnsOf, bandsFrom, listsFrom}
+use Rattle.making.specs.Columns.{columnsOf, listsFrom}
 use Rattle.making.specs.declared.live.Live.{Live}
 use Rattle.making.specs.declared.fill.Columns.{Columns}
 use Rattle.making.specs.declared.init.Bands.{Bands}
@@ -8,29 +8,15 @@ use Rattle.making.proofs.VoiceFields.{setting-eq, voice-eq}
 use Rattle.making.specs.Making.{all, sizesOk, voiceEntries, freshLists, freshVoice, phaseCount, liveBands, partialPlace, noisePlace}
 use mathlib.Core.Path.{_≡_, refl, sym, ap, _∙_}
 use mathlib.Core.List.{List, []}
-use Prim.Native.Nat.{ℕ, _≤_}
+use Prim.Native.Nat.{ℕ}
 use native.Mathlib.Omega.{arith}
 use lib.ListN.{length}
 use Rattle.making.specs.Views.{viewed}
 use Rattle.making.proofs.SortLaws.{all-gathered, bands-few}
-use Rattle.making.proofs.GatherLaws.{viewed-length}
+use Rattle.table.proofs.ViewsLaws.{viewed-length}
 use borrow.Author.Needs.{needs}
 use Rattle.making.proofs.making.fresh.Statement.{statement}
 use Rattle.making.proofs.making.fresh.Tie as tie
-use Rattle.making.proofs.making.fresh.Reads as reads
-use Rattle.making.proofs.making.fresh.Lts as lts
-use Rattle.making.proofs.counts.channel_count.Reads as channel-count-reads
-use Rattle.making.proofs.counts.phase_count.Reads as phase-count-reads
-use Rattle.making.proofs.fill.columns_of.Reads as columns-of-reads
-use Rattle.making.proofs.fill.noise.Reads as noise-reads
-use Rattle.making.proofs.fill.partials.Reads as partials-reads
-use Rattle.making.proofs.gather.gather.Reads as gather-reads
-use Rattle.making.proofs.init.init.Reads as init-reads
-use Rattle.making.proofs.lists.lists_of.Reads as lists-of-reads
-use Rattle.making.proofs.live.live_bands.Reads as live-bands-reads
-use Rattle.making.proofs.making.kind_channel.Reads as kind-channel-reads
-use Rattle.making.proofs.making.kind_number.Reads as kind-number-reads
-use Rattle.voice.proofs.first_state.Reads as first-state-reads
 
 -- src/making.rt:100:9
 channel-count-requires : tie.Need-channel-count-requires
@@ -46,7 +32,7 @@ live-bands-requires c κs =
     let b1 = c .before in
     let b4 = b1 .before .before .before in
     let b = bands-few (b4 .args .kind) (viewed (b4 .args .image .now) (b4 .args .views) (b4 .args .count)) (b4 .pre .1 .0) in
-        (b4 .pre .0, (b4 .pre .1 .0, (omega (arith, b4 .pre .1 .1 .0), b1 .channel-count .ensures .0 (b4 .args .image .now))))
+    (b4 .pre .0, (b4 .pre .1 .0, (omega (arith, b4 .pre .1 .1 .0), b1 .channel-count .ensures .0 (b4 .args .image .now))))
 
 -- src/making.rt:103:9
 gather-requires : tie.Need-gather-requires
@@ -61,7 +47,7 @@ init-requires : tie.Need-init-requires
 init-requires c κs =
     let b8 = c .before .before .before .before .before .before .before .before in
     let b = bands-few (b8 .args .kind) (viewed (b8 .args .image .now) (b8 .args .views) (b8 .args .count)) (b8 .pre .1 .0) in
-        (b8 .pre .1 .1 .1 .0, omega (arith, b8 .pre .1 .1 .0, b8 .pre .1 .1 .1 .1))
+    (b8 .pre .1 .1 .1 .0, omega (arith, b8 .pre .1 .1 .0, b8 .pre .1 .1 .1 .1))
 
 -- src/making.rt:111:20
 kind-number-requires : tie.Need-kind-number-requires
@@ -119,23 +105,23 @@ returns c =
     let b13 = b12 .before in
     let b16 = b13 .before .before .before in
     let es = viewed (b16 .args .image .now) (b16 .args .views) (b16 .args .count) in
-        let len : length (b10 .gather .result .views) ≡ 16 = b10 .gather .ensures .2 in
-        let kk = b13 .channel-count .ensures .0 (b16 .args .image .now) in
-        let gg = b10 .gather .ensures .0 (b16 .args .image .now) in
-        let vs = voiceEntries (b16 .args .kind) es in
-        let cnt : b10 .gather .result .count ≡ length vs = sym (viewed-length (b16 .args .image .now) (b10 .gather .result .views) (b10 .gather .result .count) (omega (arith, b10 .gather .ensures .1, b16 .pre .0))) ∙ ap length gg in
-        let jj = b16 .pre .1 .1 .0 in
-        voice-eq
-        (setting-eq (b5 .kind-number .ensures) (b4 .kind-channel .ensures) cnt kk (b12 .phase-count .ensures ∙ ap (λ (n : ℕ). phaseCount (b16 .args .kind) n es) kk) jj
-        (ap (λ (x : Live). x .count) (b11 .live-bands .ensures) ∙ ap (λ (n : ℕ). length (liveBands (b16 .args .kind) es n)) jj)
-        refl
-        (ap (λ (x : Live). x .bands) (b11 .live-bands .ensures) ∙ ap (λ (n : ℕ). padded 16 0 (liveBands (b16 .args .kind) es n)) jj))
-        (b3 .lists-of .ensures
-        ∙ ap (λ (x : Columns). listsFrom x (b7 .init .result)) (b8 .columns-of .ensures ∙ ap columnsOf gg)
-        ∙ ap (λ (x : Bands). listsFrom (columnsOf vs) x) (b7 .init .ensures))
-        (b2 .partials .ensures ∙ ap (λ (l : List PitchEntry). upTo (partialPlace (b16 .args .kind) (b13 .channel-count .result) l) 2048) gg ∙ ap (λ (n : ℕ). upTo (partialPlace (b16 .args .kind) n vs) 2048) kk)
-        (b1 .noise .ensures ∙ ap (λ (l : List PitchEntry). upTo (noisePlace (b16 .args .kind) (b13 .channel-count .result) l) 1024) gg ∙ ap (λ (n : ℕ). upTo (noisePlace (b16 .args .kind) n vs) 1024) kk)
-        (c .first-state .ensures)
+    let len : length (b10 .gather .result .views) ≡ 16 = b10 .gather .ensures .2 in
+    let kk = b13 .channel-count .ensures .0 (b16 .args .image .now) in
+    let gg = b10 .gather .ensures .0 (b16 .args .image .now) in
+    let vs = voiceEntries (b16 .args .kind) es in
+    let cnt : b10 .gather .result .count ≡ length vs = sym (viewed-length (b16 .args .image .now) (b10 .gather .result .views) (b10 .gather .result .count) (omega (arith, b10 .gather .ensures .1, b16 .pre .0))) ∙ ap length gg in
+    let jj = b16 .pre .1 .1 .0 in
+    voice-eq
+    (setting-eq (b5 .kind-number .ensures) (b4 .kind-channel .ensures) cnt kk (b12 .phase-count .ensures ∙ ap (λ (n : ℕ). phaseCount (b16 .args .kind) n es) kk) jj
+    (ap (λ (x : Live). x .count) (b11 .live-bands .ensures) ∙ ap (λ (n : ℕ). length (liveBands (b16 .args .kind) es n)) jj)
+    refl
+    (ap (λ (x : Live). x .bands) (b11 .live-bands .ensures) ∙ ap (λ (n : ℕ). padded 16 0 (liveBands (b16 .args .kind) es n)) jj))
+    (b3 .lists-of .ensures
+    ∙ ap (λ (x : Columns). listsFrom x (b7 .init .result)) (b8 .columns-of .ensures ∙ ap columnsOf gg)
+    ∙ ap (λ (x : Bands). listsFrom (columnsOf vs) x) (b7 .init .ensures))
+    (b2 .partials .ensures ∙ ap (λ (l : List PitchEntry). upTo (partialPlace (b16 .args .kind) (b13 .channel-count .result) l) 2048) gg ∙ ap (λ (n : ℕ). upTo (partialPlace (b16 .args .kind) n vs) 2048) kk)
+    (b1 .noise .ensures ∙ ap (λ (l : List PitchEntry). upTo (noisePlace (b16 .args .kind) (b13 .channel-count .result) l) 1024) gg ∙ ap (λ (n : ℕ). upTo (noisePlace (b16 .args .kind) n vs) 1024) kk)
+    (c .first-state .ensures)
 
 pub fresh-spec : {M : Type 1} → statement M
 fresh-spec =

@@ -11,11 +11,6 @@ use Rattle.making.proofs.MakeLists.{all-drop-go, all-drop-no, all-drop-
 use borrow.Author.Needs.{needs}
 use Rattle.making.proofs.values.coefficients_ok.Statement.{statement}
 use Rattle.making.proofs.values.coefficients_ok.Tie as tie
-use Rattle.making.proofs.values.coefficients_ok.Reads as reads
-use Rattle.making.proofs.values.coefficients_ok.Lts as lts
-use Rattle.float.proofs.from_bits.Reads as from-bits-reads
-use Rattle.float.proofs.is_finite.Reads as is-finite-reads
-use Rattle.table.proofs.entry.nth_coefficient.Reads as nth-coefficient-reads
 
 -- those before x are finite
 abbrev Inv-loop : tie.InvT-loop

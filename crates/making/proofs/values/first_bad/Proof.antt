@@ -10,9 +10,6 @@ use Rattle.making.proofs.ViewLaws.{rest, values-go, values-no, values-e
 use borrow.Author.Needs.{needs}
 use Rattle.making.proofs.values.first_bad.Statement.{statement}
 use Rattle.making.proofs.values.first_bad.Tie as tie
-use Rattle.making.proofs.values.first_bad.Reads as reads
-use Rattle.making.proofs.values.first_bad.Lts as lts
-use Rattle.making.proofs.values.values_ok.Reads as values-ok-reads
 
 abbrev Inv-loop : tie.InvT-loop
 Inv-loop s count views i₀ i = (i ≤ count) × ((r : Refusal) → askValues i (rest s views i count) r ≡ askValues 0 (viewed s views count) r)

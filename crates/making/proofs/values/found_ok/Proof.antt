@@ -1,11 +1,7 @@
-use mathlib.Core.Path.{_≡_, refl, sym, ap, _∙_}
+use mathlib.Core.Path.{refl}
 use borrow.Author.Needs.{needs}
 use Rattle.making.proofs.values.found_ok.Statement.{statement}
 use Rattle.making.proofs.values.found_ok.Tie as tie
-use Rattle.making.proofs.values.found_ok.Reads as reads
-use Rattle.making.proofs.values.found_ok.Lts as lts
-use Rattle.float.proofs.from_bits.Reads as from-bits-reads
-use Rattle.float.proofs.is_finite.Reads as is-finite-reads
 
 -- src/values.rt:45:21
 enum-known-f : tie.Need-enum-known-f

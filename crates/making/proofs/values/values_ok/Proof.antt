@@ -1,18 +1,10 @@
-use mathlib.Core.Path.{_≡_, refl, sym, ap, _∙_}
+use mathlib.Core.Path.{refl, sym, ap, _∙_}
 use borrow.Author.Tests.{not-true, not-false}
 use Rattle.voice.specs.Voice.{pitchOk, stretchOk}
 use Rattle.making.specs.Making.{valuesOk, presentFinite}
 use borrow.Author.Needs.{needs}
 use Rattle.making.proofs.values.values_ok.Statement.{statement}
 use Rattle.making.proofs.values.values_ok.Tie as tie
-use Rattle.making.proofs.values.values_ok.Reads as reads
-use Rattle.making.proofs.values.values_ok.Lts as lts
-use Rattle.float.proofs.from_bits.Reads as from-bits-reads
-use Rattle.making.proofs.values.coefficients_ok.Reads as coefficients-ok-reads
-use Rattle.making.proofs.values.found_ok.Reads as found-ok-reads
-use Rattle.making.proofs.values.pitch_ok.Reads as pitch-ok-reads
-use Rattle.making.proofs.values.stretch_ok.Reads as stretch-ok-reads
-use Rattle.table.proofs.entry.metadata_value.Reads as metadata-value-reads
 
 -- src/values.rt:71:18
 from-bits-requires : tie.Need-from-bits-requires

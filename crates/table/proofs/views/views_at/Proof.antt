@@ -85,9 +85,10 @@ returns c =
     let b4 = b2 .before .before in
     let b5 = b4 .before in
     let b6 = b5 .before in
-    let g = sym (b4 .entry-at .ensures .0) ∙ ap (entryParsed _) (b2 .e .given .1) in
-        (c .no-views .ensures ∙ sym (sym (b6 .loop .inv .1) ∙ entries-no _ _ _ _ _ _ (b5 .loop-test .taken) g),
-        λ few l. absurd (views-lack _ (b6 .loop .views) (b6 .loop .i) _ _ _ (b6 .loop .inv .2) few (b6 .loop .inv .3 few) _ (b5 .loop-test .taken) g l))
+    let g = sym (b4 .entry-at .ensures .0) ∙ ap (entryParsed _) (b2 .e .given .1) in (
+      c .no-views .ensures ∙ sym (sym (b6 .loop .inv .1) ∙ entries-no _ _ _ _ _ _ (b5 .loop-test .taken) g),
+      λ few l. absurd (views-lack _ (b6 .loop .views) (b6 .loop .i) _ _ _ (b6 .loop .inv .2) few (b6 .loop .inv .3 few) _ (b5 .loop-test .taken) g l),
+    )
 
 -- src/views.rt:82:9
 add-i : tie.Need-add-i Inv-loop μ-loop
@@ -105,9 +106,12 @@ loop-again c =
     let b5 = b3 .before .before in
     let b6 = b5 .before in
     let b7 = b6 .before in
-    let g = sym (b5 .entry-at .ensures .0) ∙ ap (entryParsed _) (b3 .v .given .1) in
-        (omega arith, rw (c .judge .ensures, b1 .span-of .ensures) (sym (entries-go _ _ _ _ _ _ _ (b6 .loop-test .taken) g) ∙ b7 .loop .inv .1), simp length-set (b7 .loop .inv .2),
-        λ few. views-again _ (b7 .loop .views) (b7 .loop .i) _ _ _ (b7 .loop .inv .2) few (b7 .loop .inv .3 few) _ _ (b6 .loop-test .taken) g)
+    let g = sym (b5 .entry-at .ensures .0) ∙ ap (entryParsed _) (b3 .v .given .1) in (
+      omega arith,
+      rw (c .judge .ensures, b1 .span-of .ensures) (sym (entries-go _ _ _ _ _ _ _ (b6 .loop-test .taken) g) ∙ b7 .loop .inv .1),
+      simp length-set (b7 .loop .inv .2),
+      λ few. views-again _ (b7 .loop .views) (b7 .loop .i) _ _ _ (b7 .loop .inv .2) few (b7 .loop .inv .3 few) _ _ (b6 .loop-test .taken) g,
+    )
 
 -- src/views.rt:84:9
 conclude-requires : tie.Need-conclude-requires Inv-loop μ-loop
@@ -117,9 +121,10 @@ conclude-requires c κs = search needs
 returns-2 : tie.Need-returns-2 Inv-loop μ-loop
 returns-2 c =
     let b1 = c .before in
-    let b2 = b1 .before in
-    (c .conclude .ensures ∙ sym (entries-end _ _ _ _ _ (b2 .loop .inv .0) (b1 .loop-test .left)) ∙ b2 .loop .inv .1,
-        λ few l. views-end _ (b2 .loop .views) (b2 .loop .i) _ _ _ (b2 .loop .inv .2) few (b2 .loop .inv .3 few) (omega arith))
+    let b2 = b1 .before in (
+      c .conclude .ensures ∙ sym (entries-end _ _ _ _ _ (b2 .loop .inv .0) (b1 .loop-test .left)) ∙ b2 .loop .inv .1,
+      λ few l. views-end _ (b2 .loop .views) (b2 .loop .i) _ _ _ (b2 .loop .inv .2) few (b2 .loop .inv .3 few) (omega arith),
+    )
 
 pub views-at-spec : {M : Type 1} → statement M
 views-at-spec =

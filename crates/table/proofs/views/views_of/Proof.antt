@@ -21,7 +21,7 @@ returns c =
     let b1 = c .before in
     let b3 = b1 .before .before in
     let p = read-long (b3 .args .image .now) (b1 .if1 .taken) in
-        record { reading = c .no-views .ensures ∙ sym (ap counts p); views = no-views-stand (b3 .args .image .now) _ _ p refl }
+    record { reading = c .no-views .ensures ∙ sym (ap counts p); views = no-views-stand (b3 .args .image .now) _ _ p refl }
 
 -- src/views.rt:95:11
 header-at-requires : tie.Need-header-at-requires
@@ -55,7 +55,7 @@ returns-2 c =
     let b5 = b4 .before in
     let b7 = b5 .before .before in
     let p = read-no (b7 .args .image .now) _ (b5 .if1 .left) (sym (b4 .header-at .ensures) ∙ ap (headerParsed _) (b2 .e .given .1)) in
-        record { reading = c .no-views2 .ensures ∙ sym (ap counts p); views = no-views-stand (b7 .args .image .now) _ _ p refl }
+    record { reading = c .no-views2 .ensures ∙ sym (ap counts p); views = no-views-stand (b7 .args .image .now) _ _ p refl }
 
 -- src/views.rt:89:1
 returns-3 : tie.Need-returns-3
@@ -65,7 +65,7 @@ returns-3 c =
     let b6 = b5 .before in
     let b8 = b6 .before .before in
     let g = sym (b5 .header-at .ensures) ∙ ap (headerParsed _) (b3 .h .given .1) in
-        record { reading = c .views-at .ensures .0 ∙ sym (read-go _ _ _ (b6 .if1 .left) g); views = views-stand (b8 .args .image .now) _ _ (c .views-at .result .views) g (c .views-at .ensures .1) }
+    record { reading = c .views-at .ensures .0 ∙ sym (read-go _ _ _ (b6 .if1 .left) g); views = views-stand (b8 .args .image .now) _ _ (c .views-at .result .views) g (c .views-at .ensures .1) }
 
 pub views-of-spec : {M : Type 1} → statement M
 views-of-spec =
