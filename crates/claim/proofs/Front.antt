@@ -6,7 +6,7 @@ use native.Mathlib.Omega.{arith}
 use lib.ListN.{length, List·getD-append}
 use lib.Ieee.{Float, nan}
 use Rattle.player.specs.Bracket.{notAbove, neighbours, bracketOf, sidesOf, SidesIn, between}
-use Rattle.player.specs.declared.bracket.Sides.{Sides}
+use Rattle.player.specs.declared.pitch.bracket.Sides.{Sides}
 use Rattle.player.proofs.BracketLaws.{notAbove-in}
 use Rattle.claim.proofs.Sides.{sides-in}
 

@@ -12,7 +12,7 @@ use Rattle.float.specs.Range.{plain, Within}
 use Rattle.float.proofs.Finite.{shown}
 use Rattle.float.specs.F32.{nearest}
 use Rattle.player.specs.Share.{shareOf}
-use Rattle.player.specs.declared.bracket.Bracket.the-variants.{One}
+use Rattle.player.specs.declared.pitch.bracket.Bracket.the-variants.{One}
 use Rattle.voice.specs.Voice.{pitchOk, stretchOk}
 use Rattle.player.specs.Bracket.{notAbove, neighbours, bracketOf, sidesOf, SidesIn, between}
 use Rattle.player.proofs.BracketLaws.{notAbove-in, notAbove-le, above-it}

@@ -9,7 +9,7 @@ use Rattle.wire.specs.Parse.{refusal, ok, refused}
 use Rattle.table.specs.Decode.{decode}
 use Rattle.table.specs.Answer.{counts}
 use Rattle.table.specs.Rewrite.{rewritten}
-use Rattle.player.specs.declared.bracket.Bracket.{Bracket}
+use Rattle.player.specs.declared.pitch.bracket.Bracket.{Bracket}
 use Rattle.float.specs.F32.{nearest}
 use Rattle.wave_table.specs.Wave.{quarterOf}
 use Rattle.player.specs.Phase.{advanceOf}

@@ -7,7 +7,7 @@ mod minimum;
 mod near;
 mod root;
 mod roots;
-mod whole;
+mod rounding;
 
 pub use bits::from_bits;
 pub use bits::is_finite;

@@ -7,7 +7,7 @@ ghost use lib.Ieee.Positive.{positive};
 ghost use Rattle.float.specs.Sqrt.{normal, scaled, normalRoot, positiveRoot};
 ghost use Rattle.float.specs.Sqrt.{sqrt as Sqrt·sqrt};
 use crate::near::near;
-use crate::whole::nearest;
+use crate::rounding::nearest;
 
 // The significand of the pattern b times 2^24 or 2^23, whichever leaves an even exponent: a quarter of the number whose root has 25 digits.
 pub(crate) fn quarter(b: u32) -> u64

@@ -9,7 +9,7 @@ use console::centres::Centres;
 use console::file;
 use console::say;
 use console::words;
-use sounder::table_door::sounder_from_bytes;
+use sounder::images::sounder_from_bytes;
 
 fn usage() {
     say::text(

@@ -22,7 +22,7 @@ use Rattle.voice.specs.Voice.{noiseGains, compensations, bandAt, memoryAt, with
 use Rattle.player.specs.Sound.{sidesAt, noiseRow, noiseIn, tickAt, addNoiseSingle, addNoiseBlend, blendPower, noiseTerm, noiseSum, movedMemories}
 use Rattle.player.specs.Passes.{LiveFit}
 use Rattle.player.specs.Columns.{stateOfColumns, coeffsOfRows, Memories, Coeffs, Ticked, scattered, singleTerm, blendTerm}
-use Rattle.player.specs.declared.bracket.Sides.{Sides}
+use Rattle.player.specs.declared.pitch.bracket.Sides.{Sides}
 use Rattle.filters.specs.declared.biquad.BiquadState.{BiquadState}
 use Rattle.filters.specs.declared.biquad.Tick.{Tick}
 use Rattle.filters.specs.declared.rng.Rng.{Rng}

@@ -10,7 +10,7 @@ use Rattle.player.specs.Phase.{advanceOf}
 use Rattle.filters.specs.Rng.{bipolarOf, newRng, nextBipolar}
 use Rattle.wave_table.specs.Wave.{quarterOf}
 use Rattle.player.specs.Bracket.{notAbove, neighbours, bracketOf}
-use Rattle.player.specs.declared.bracket.Bracket.{Bracket}
+use Rattle.player.specs.declared.pitch.bracket.Bracket.{Bracket}
 
 -- P7: T at 0, 1, 64, 128, 256
 pub record P7 : Type 0 where

@@ -12,7 +12,7 @@ use lib.Ieee.{Float, nan, le}
 use Rattle.wire.specs.Parse.{pick}
 use Rattle.player.specs.Share.{shareOf}
 use Rattle.player.specs.Bracket.{notAbove, neighbours}
-use Rattle.player.specs.declared.bracket.Bracket.{Bracket}
+use Rattle.player.specs.declared.pitch.bracket.Bracket.{Bracket}
 
 -- a turn of the search, downwards
 pub notAbove-down : (ps : List Float) (f : Float) (k : ℕ) → 0 < k → le (getD ps (k - 1) nan) f ≡ false → notAbove ps f k ≡ notAbove ps f (k - 1)

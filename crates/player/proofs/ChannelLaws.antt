@@ -1,4 +1,4 @@
--- A channel's two passes put together: the state after each sample, and what is heard; and the voices of each pass beside the whole one.
+-- A channel's two passes put together: the state after each sample, and what is audible; and the voices of each pass beside the whole one.
 use mathlib.Core.Path.{_≡_, refl, sym, ap, _∙_}
 use mathlib.Core.List.{List}
 use mathlib.Core.Bool.{Bool, true, false}
@@ -28,16 +28,16 @@ module _ (v : Voice) (freq : ℕ → Float) (g : ℕ → List Float) where
   state-is N (suc i) = ap (λ (s : State). moved v (cleaned (freq i)) s) (state-is N i) ∙ rw N
 
   -- one sample
-  heard : eqb (v .set .count) 0 ≡ false → (n i : ℕ) → i < n → noisy v freq g i (getD (partialsOut v freq g n) i nan) ≡ sound v (stateAt v freq i) (cleaned (freq i)) (g i)
+  audible : eqb (v .set .count) 0 ≡ false → (n i : ℕ) → i < n → noisy v freq g i (getD (partialsOut v freq g n) i nan) ≡ sound v (stateAt v freq i) (cleaned (freq i)) (g i)
   unfolding noisy partialsOut sound
-  heard N n i l =
+  audible N n i l =
       ap (λ (z : Float). noisy v freq g i z) (upTo-at (λ i. partialSum v (cleaned (freq i)) (g i) (phasesAt v freq i)) n i nan l)
       ∙ sym (ap (λ (s : State). sound v s (cleaned (freq i)) (g i)) (state-is N i) ∙ rw N)
 
-  -- LAW: what is heard is what the second pass makes of the first's samples
+  -- LAW: what is audible is what the second pass makes of the first's samples
   pub out-is : eqb (v .set .count) 0 ≡ false → (n : ℕ) → noiseOut v freq g (partialsOut v freq g n) n ≡ channelOut v freq g n
   unfolding noiseOut channelOut
-  out-is N n = upTo-as _ _ n (λ i l. heard N n i l)
+  out-is N n = upTo-as _ _ n (λ i l. audible N n i l)
 
   pub length-tones : (n : ℕ) → length (partialsOut v freq g n) ≡ n
   unfolding partialsOut

@@ -18,13 +18,13 @@ use Rattle.player.specs.Sound.{sidesAt, noiseIn, movedMemories, movedRng
 use Rattle.player.specs.Passes.{LiveFit, rngAt, memoriesAt, noisy, noiseOut}
 use Rattle.player.specs.Columns.{Memories, Coeffs, Ticked, scattered}
 use Rattle.filters.specs.declared.biquad.BiquadState.{BiquadState}
-use Rattle.player.specs.declared.fixed.Fixed.{Fixed}
+use Rattle.player.specs.declared.constants.Constants.{Constants}
 use Rattle.filters.specs.declared.rng.Bipolar.{Bipolar}
 use Rattle.filters.specs.declared.rng.Rng.{Rng}
 use Rattle.player.specs.declared.tuning.NoiseTuning.{NoiseTuning}
 use Rattle.voice.specs.declared.voice.Voice.{Voice}
 use Rattle.voice.proofs.Loops.{steps-again, upTo-read, upTo-again, upTo-full}
-use Rattle.player.proofs.SoundLaws.{FixedOf}
+use Rattle.player.proofs.SoundLaws.{ConstantsOf}
 use Rattle.player.proofs.ToneLaws.{NoiseTunedTo, noise-stays, untuned-none}
 use Rattle.player.proofs.BandColumns.{AgreeOff, agree-same, agree-moved, length-memories, memories-moved, filtered-at, scattered-is, sum-is-sample}
 
@@ -51,7 +51,7 @@ module _ (v : Voice) (freq : ℕ → Float) (g : ℕ → List Float) where
   unfolding noiseOut
   noises-full i n l ls q h e = upTo-full (λ i. noisy v freq g i (getD l i nan)) i n l ls q h e
 
-module _ (v : Voice) (x : Fixed) where
+module _ (v : Voice) (x : Constants) where
   -- before sample i the columns hold the state of the definitions, and are tuned to every frequency that compares equal to t's
   pub record Noising (i : ℕ) (z1 z2 : List Float) (rng : Rng) (rows : List Float) (t : NoiseTuning) : Type 0 where
     pub rng-is : rng ≡ rngAt v i
@@ -60,7 +60,7 @@ module _ (v : Voice) (x : Fixed) where
     pub off : AgreeOff (memoriesAt v i) (v .state .memories) (v .set .live) (v .set .«live_count»)
     pub tuned : (f : Float) → T (fits binary32 f) → Within 20000 1 f → eq f (t .f0) ≡ true → NoiseTunedTo v x f rows t
 
-module _ (v : Voice) (K : LiveFit (v .set)) (x : Fixed) (X : (x .blend ≡ v .set .blend) × (x .k ≡ v .set .k)) (L : length (v .state .memories) ≡ 32) where
+module _ (v : Voice) (K : LiveFit (v .set)) (x : Constants) (X : (x .blend ≡ v .set .blend) × (x .k ≡ v .set .k)) (L : length (v .state .memories) ≡ 32) where
   pub noising-first : (z1 z2 rows : List Float) (t : NoiseTuning) → Memories z1 z2 (v .state .memories) (v .set .live) (v .set .«live_count») → t .f0 ≡ nan → Noising v x 0 z1 z2 (v .state .rng) rows t
   unfolding rngAt memoriesAt steps
   noising-first z1 z2 rows t M e = record {
@@ -114,10 +114,10 @@ module _ (v : Voice) (K : LiveFit (v .set)) (x : Fixed) (X : (x .blend ≡ v .se
 
 -- ---- the lists that the pass copies out of a voice's
 module _ (v : Voice) (a b : List Float) (ea : a ≡ pitches v) (eb : b ≡ noiseGains v) where
-  pub noise-tuned-of : (x : Fixed) (f0 : Float) (rows : List Float) (t : NoiseTuning) → NoiseTuned x (v .set .count) (v .set .«live_count») a b (v .noise) (v .set .live) f0 rows t → NoiseTunedTo v x f0 rows t
+  pub noise-tuned-of : (x : Constants) (f0 : Float) (rows : List Float) (t : NoiseTuning) → NoiseTuned x (v .set .count) (v .set .«live_count») a b (v .noise) (v .set .live) f0 rows t → NoiseTunedTo v x f0 rows t
   noise-tuned-of x f0 rows t U = rw (ea, eb) at U
 
-  pub of-noise-tuned : (x : Fixed) (f0 : Float) (rows : List Float) (t : NoiseTuning) → NoiseTunedTo v x f0 rows t → NoiseTuned x (v .set .count) (v .set .«live_count») a b (v .noise) (v .set .live) f0 rows t
+  pub of-noise-tuned : (x : Constants) (f0 : Float) (rows : List Float) (t : NoiseTuning) → NoiseTunedTo v x f0 rows t → NoiseTuned x (v .set .count) (v .set .«live_count») a b (v .noise) (v .set .live) f0 rows t
   of-noise-tuned x f0 rows t U = rw (ea, eb) U
 
 -- the compensations of the live bands

@@ -23,7 +23,7 @@ use Rattle.player.specs.Phase.{Phase, Step, advanceOf, stepOf}
 use Rattle.voice.specs.Lists.{mapTo}
 use Rattle.voice.specs.Voice.{phaseOk, pitchOk, stretchOk, phasesOk}
 use Rattle.player.specs.Sound.{partialRow}
-use Rattle.player.specs.declared.bracket.Sides.{Sides}
+use Rattle.player.specs.declared.pitch.bracket.Sides.{Sides}
 use Rattle.voice.proofs.Loops.{both-true, every-at, mapTo-read}
 use Rattle.player.proofs.PhaseLaws.{sum-within, advance-phase, freq-within, stretch-within}
 

@@ -28,12 +28,12 @@ use Rattle.player.specs.Bracket.{SidesIn, between}
 use Rattle.voice.specs.Voice.{phaseOk, pitchOk, stretchOk, phasesOk, countsOk, entriesOk, liveOk, pitchesAscend, bandsAscend, keepsRules, pitches, stretches}
 use Rattle.player.specs.Sound.{sidesAt, partialRow, noiseRow, movedPhases, addSingle, addBlend, blendCoeff, sound, moved}
 use Rattle.player.specs.Block.{stateAt, channelOut}
-use Rattle.player.specs.declared.bracket.Sides.{Sides}
+use Rattle.player.specs.declared.pitch.bracket.Sides.{Sides}
 use Rattle.filters.specs.declared.biquad.BiquadState.{BiquadState}
 use Rattle.filters.specs.declared.biquad.Tick.{Tick}
-use Rattle.player.specs.declared.fixed.Fixed.{Fixed}
+use Rattle.player.specs.declared.constants.Constants.{Constants}
 use Rattle.voice.specs.declared.voice.Setting.{Setting}
-use Rattle.player.specs.declared.pitch.Pitch.{Pitch}
+use Rattle.player.specs.declared.pitch.kept.Pitch.{Pitch}
 use Rattle.filters.specs.declared.rng.Rng.{Rng}
 use Rattle.voice.specs.declared.voice.State.{State}
 use Rattle.voice.specs.declared.voice.Voice.{Voice}
@@ -44,9 +44,9 @@ use Rattle.player.proofs.RangeLaws.{hold, advance-ok, phase-passes, ste
 use Rattle.filters.proofs.Tests.{rate-is}
 
 -- ---- one sample
--- what `fixed_of` hands over is the voice's
-abbrev pub FixedOf : Voice → Fixed → Type 0
-FixedOf v x = (x .blend ≡ v .set .blend) × (x .k ≡ v .set .k) × (x .m ≡ v .set .m) × (x .inv ≡ inverseOf (v .set .«sample_rate»)) × (x .nyquist ≡ v .set .«sample_rate» ⊗ nearest 1 2)
+-- what `constants_of` hands over is the voice's
+abbrev pub ConstantsOf : Voice → Constants → Type 0
+ConstantsOf v x = (x .blend ≡ v .set .blend) × (x .k ≡ v .set .k) × (x .m ≡ v .set .m) × (x .inv ≡ inverseOf (v .set .«sample_rate»)) × (x .nyquist ≡ v .set .«sample_rate» ⊗ nearest 1 2)
 
 -- ---- a channel
 module _ (v : Voice) (freq : ℕ → Float) (g : ℕ → List Float) where

@@ -1,4 +1,4 @@
--- The columns of a sample's partials put together to the definitions: what moves, and what is heard.
+-- The columns of a sample's partials put together to the definitions: what moves, and what is audible.
 use mathlib.Core.Path.{_≡_, refl, sym, ap, _∙_, subst}
 use mathlib.Core.List.{List, [], _∷_}
 use mathlib.Core.Bool.{Bool, true, false}
@@ -20,16 +20,16 @@ use Rattle.player.specs.Sound.{sidesAt, stepAt, fadeAt, partialRow, nois
 use Rattle.player.specs.Bracket.{bracketOf, sidesOf, between}
 use Rattle.player.specs.Columns.{added}
 use Rattle.player.specs.Tuning.{Tuned, NoiseTuned, rowsIn}
-use Rattle.player.specs.declared.bracket.Sides.{Sides}
-use Rattle.player.specs.declared.fixed.Fixed.{Fixed}
-use Rattle.player.specs.declared.pitch.Pitch.{Pitch}
+use Rattle.player.specs.declared.pitch.bracket.Sides.{Sides}
+use Rattle.player.specs.declared.constants.Constants.{Constants}
+use Rattle.player.specs.declared.pitch.kept.Pitch.{Pitch}
 use Rattle.player.specs.declared.tuning.NoiseTuning.{NoiseTuning}
 use Rattle.player.specs.declared.tuning.Tuning.{Tuning}
 use Rattle.voice.specs.declared.voice.Voice.{Voice}
 use Rattle.voice.proofs.Loops.{every-at, at-every, mapTo-at}
 use Rattle.player.proofs.ColumnLaws.{steps-as}
 use Rattle.player.proofs.RangeLaws.{advance-ok, phase-passes, step-small}
-use Rattle.player.proofs.SoundLaws.{FixedOf, phase-inside}
+use Rattle.player.proofs.SoundLaws.{ConstantsOf, phase-inside}
 
 -- maps that agree below n
 mapped-same : (f g : ℕ → Float → Float) (k n : ℕ) (l : List Float) → ((i : ℕ) (p : Float) → k ≤ i → i < k + n → f i p ≡ g i p) → mapTo f k n l ≡ mapTo g k n l
@@ -48,10 +48,10 @@ pub record TunedVoice (v : Voice) (f0 : Float) (incs fades rows : List Float) (t
   pub fading : Filled fades (λ i. fadeAt v f0 i) (v .set .m)
   pub rows-are : FilledRows rows (λ q i. partialRow (v .partials) (sidesAt v f0) q i) (pick (eqb (v .set .blend) 0) 1 (v .set .k)) (v .set .m)
 
-abbrev pub TunedTo : Voice → Fixed → Float → List Float → List Float → List Float → Tuning → Type 0
+abbrev pub TunedTo : Voice → Constants → Float → List Float → List Float → List Float → Tuning → Type 0
 TunedTo v x f0 incs fades rows t = Tuned x (v .set .count) (pitches v) (stretches v) (mainlobes v) (v .partials) f0 incs fades rows t
 
-module _ (v : Voice) (x : Fixed) (X : FixedOf v x) (incs fades rows : List Float) (t : Tuning) where
+module _ (v : Voice) (x : Constants) (X : ConstantsOf v x) (incs fades rows : List Float) (t : Tuning) where
   pub tuned-voice : (f0 : Float) → TunedTo v x f0 incs fades rows t → TunedVoice v f0 incs fades rows t
   unfolding sidesAt
   tuned-voice f0 T = record {
@@ -70,10 +70,10 @@ module _ (v : Voice) (x : Fixed) (X : FixedOf v x) (incs fades rows : List Float
       subst (λ (z : Float). TunedTo v x z incs fades rows t) (sym (same-float g f0 G F (U .plain-is) (W .plain-is) (ap (λ (z : Float). eq g z) (sym (T .at)) ∙ e))) T
 
 -- the live bands' columns, in the same way
-abbrev pub NoiseTunedTo : Voice → Fixed → Float → List Float → NoiseTuning → Type 0
+abbrev pub NoiseTunedTo : Voice → Constants → Float → List Float → NoiseTuning → Type 0
 NoiseTunedTo v x f0 rows t = NoiseTuned x (v .set .count) (v .set .«live_count») (pitches v) (noiseGains v) (v .noise) (v .set .live) f0 rows t
 
-pub noise-stays : (v : Voice) (x : Fixed) (rows : List Float) (t : NoiseTuning) (f0 : Float) → T (fits binary32 f0) → Within 20000 1 f0 → NoiseTunedTo v x f0 rows t
+pub noise-stays : (v : Voice) (x : Constants) (rows : List Float) (t : NoiseTuning) (f0 : Float) → T (fits binary32 f0) → Within 20000 1 f0 → NoiseTunedTo v x f0 rows t
     → (g : Float) → T (fits binary32 g) → Within 20000 1 g → eq g (t .f0) ≡ true → NoiseTunedTo v x g rows t
 noise-stays v x rows t f0 F W T g G U e =
     subst (λ (z : Float). NoiseTunedTo v x z rows t) (sym (same-float g f0 G F (U .plain-is) (W .plain-is) (ap (λ (z : Float). eq g z) (sym (T .at)) ∙ e))) T
@@ -143,13 +143,13 @@ module _ (v : Voice) (f0 : Float) (incs fades rows : List Float) (t : Tuning) (T
     each true b i l y = rw (b, first-row i b l, T .mainlobe, T .fading .at i l, sine-at i l)
     each false b i l y = rw (b, blended i b l, T .mainlobe, T .fading .at i l, sine-at i l)
 
-    -- LAW: what `tone_sum` ensures is the sum of the partials
+    -- LAW: what `partial_sum` ensures is the sum of the partials
     pub tone-sound : (y : Float) → y ≡ steps (λ i y. term (eqb (v .set .blend) 0) i y) (nearest 0 1) (v .set .m) → y ≡ partialSum v f0 g ps
     unfolding partialSum
     tone-sound y e = e ∙ steps-as _ _ (nearest 0 1) (v .set .m) (λ i l y. each (eqb (v .set .blend) 0) refl i l y)
 
 -- ---- columns that are filled anew
-module _ (x : Fixed) (count : ℕ) (pitches stretches mainlobes partials : List Float) (f0 : Float) (p : Pitch)
+module _ (x : Constants) (count : ℕ) (pitches stretches mainlobes partials : List Float) (f0 : Float) (p : Pitch)
     (P : (p .f0 ≡ f0) × (p .s ≡ sidesOf (bracketOf pitches count f0)) × (p .stretch ≡ between stretches (p .s)) × (p .mainlobe ≡ between mainlobes (p .s)))
     (freqs incs fades rows : List Float) (k : ℕ) (b : Bool) where
   -- the stretch between the sides of f0
@@ -172,7 +172,7 @@ module _ (x : Fixed) (count : ℕ) (pitches stretches mainlobes partials : List 
   }
 
 -- LAW: what `tune_noise` fills is tuned to f0
-pub noise-tuned-is : (x : Fixed) (count n : ℕ) (pitches noiseGains noise : List Float) (live : List ℕ) (f0 : Float) (s : Sides) (rows : List Float) (k : ℕ) (y : Float) → s ≡ sidesOf (bracketOf pitches count f0) → k ≡ rowsIn x
+pub noise-tuned-is : (x : Constants) (count n : ℕ) (pitches noiseGains noise : List Float) (live : List ℕ) (f0 : Float) (s : Sides) (rows : List Float) (k : ℕ) (y : Float) → s ≡ sidesOf (bracketOf pitches count f0) → k ≡ rowsIn x
     → FilledRows rows (λ q l. noiseRow noise s q (getD live l 0)) k n → y ≡ between noiseGains s
     → NoiseTuned x count n pitches noiseGains noise live f0 rows (record { f0 = f0; «noise_gain» = y })
 noise-tuned-is x count n pitches noiseGains noise live f0 s rows k y es ek N ey = record {

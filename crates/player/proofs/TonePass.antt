@@ -22,13 +22,13 @@ use Rattle.player.specs.Sound.{sidesAt, partialRow, blendCoeff, addSingl
 use Rattle.player.specs.Passes.{EntriesFit, phasesAt, partialsOut}
 use Rattle.player.specs.Columns.{added}
 use Rattle.player.specs.Tuning.{PitchAt, Tuned}
-use Rattle.player.specs.declared.fixed.Fixed.{Fixed}
-use Rattle.player.specs.declared.pitch.Pitch.{Pitch}
+use Rattle.player.specs.declared.constants.Constants.{Constants}
+use Rattle.player.specs.declared.pitch.kept.Pitch.{Pitch}
 use Rattle.player.specs.declared.tuning.Tuning.{Tuning}
 use Rattle.voice.specs.declared.voice.Voice.{Voice}
 use Rattle.voice.proofs.Loops.{steps-again, every-at, at-every, mapTo-at, upTo-again, upTo-full}
 use Rattle.player.proofs.RangeLaws.{advance-ok, phase-passes, step-small}
-use Rattle.player.proofs.SoundLaws.{FixedOf, inverse-small, phase-inside}
+use Rattle.player.proofs.SoundLaws.{ConstantsOf, inverse-small, phase-inside}
 use Rattle.player.proofs.ToneLaws.{TunedTo, TunedVoice, tuned-voice, stays, untuned-none, moved-phases, phases-kept, tone-sound}
 
 -- the phases after a sample
@@ -55,14 +55,14 @@ module _ (v : Voice) (freq : ℕ → Float) (g : ℕ → List Float) where
   unfolding partialsOut
   tones-full i n l ls ps q h e p = (p ∙ ap (λ (z : ℕ). phasesAt v freq z) q, upTo-full (λ i. partialSum v (cleaned (freq i)) (g i) (phasesAt v freq i)) i n l ls q h e)
 
-module _ (v : Voice) (x : Fixed) (freq : ℕ → Float) where
+module _ (v : Voice) (x : Constants) (freq : ℕ → Float) where
   -- before sample i the phases are those of the definitions, and the columns are tuned to every frequency that compares equal to t's
   pub record Toning (i : ℕ) (phases incs fades rows : List Float) (t : Tuning) : Type 0 where
     pub phases-are : phases ≡ phasesAt v freq i
     pub ok : phasesOk phases (v .set .m) ≡ true
     pub tuned : (f : Float) → T (fits binary32 f) → Within 20000 1 f → eq f (t .f0) ≡ true → TunedTo v x f incs fades rows t
 
-module _ (v : Voice) (x : Fixed) (X : FixedOf v x) (freq : ℕ → Float) (g : ℕ → List Float) where
+module _ (v : Voice) (x : Constants) (X : ConstantsOf v x) (freq : ℕ → Float) (g : ℕ → List Float) where
   pub toning-first : (incs fades rows : List Float) (t : Tuning) → phasesOk (v .state .phases) (v .set .m) ≡ true → t .f0 ≡ nan → Toning v x freq 0 (v .state .phases) incs fades rows t
   toning-first incs fades rows t h e = record {
     phases-are = phases-first v freq;
@@ -107,8 +107,8 @@ phases-step m f0 stretch inv ps M F S I h =
     ap (λ (z : Float). phaseOk z) (mapTo-at (λ i p. advanceOf p (stepOf (i + 1) f0 stretch inv)) nan m i ps l (phase-inside ps m i h l))
     ∙ phase-passes _ (advance-ok (getD ps i nan) (stepOf (i + 1) f0 stretch inv) o (step-small (i + 1) f0 stretch inv (omega arith) F S I)))
 
-module _ (v : Voice) (f0 : Float) (x : Fixed) (p : Pitch) (X : FixedOf v x) (P : PitchOf v f0 p) where
-  -- LAW: what `tone_of` answers is the sum of the partials
+module _ (v : Voice) (f0 : Float) (x : Constants) (p : Pitch) (X : ConstantsOf v x) (P : PitchOf v f0 p) where
+  -- LAW: what `sample_of` answers is the sum of the partials
   pub tone-is : (g ps : List Float) (y : Float)
       → y ≡ steps (λ i y. pick (eqb (x .blend) 0) (addSingle y (partialRow (v .partials) (p .s) 0 i) (p .mainlobe) (nyquistFade (partialFreq (i + 1) (p .f0) (p .stretch)) (x .nyquist)) (getD g 0 nan) (advanceOf (getD ps i nan) (stepOf (i + 1) (p .f0) (p .stretch) (x .inv)))) (addBlend y (blendCoeff (λ q. partialRow (v .partials) (p .s) q i) g (x .k)) (p .mainlobe) (nyquistFade (partialFreq (i + 1) (p .f0) (p .stretch)) (x .nyquist)) (advanceOf (getD ps i nan) (stepOf (i + 1) (p .f0) (p .stretch) (x .inv))))) (nearest 0 1) (x .m)
       → y ≡ partialSum v f0 g ps
@@ -156,10 +156,10 @@ no-pitch-yet v p n f F W e = absurd (untuned-none f (ap (λ (z : Float). eq f z)
 
 -- ---- the lists that a pass copies out of a voice's
 module _ (v : Voice) (a b d : List Float) (ea : a ≡ pitches v) (eb : b ≡ stretches v) (ed : d ≡ mainlobes v) where
-  pub tuned-of : (x : Fixed) (f0 : Float) (incs fades rows : List Float) (t : Tuning) → Tuned x (v .set .count) a b d (v .partials) f0 incs fades rows t → TunedTo v x f0 incs fades rows t
+  pub tuned-of : (x : Constants) (f0 : Float) (incs fades rows : List Float) (t : Tuning) → Tuned x (v .set .count) a b d (v .partials) f0 incs fades rows t → TunedTo v x f0 incs fades rows t
   tuned-of x f0 incs fades rows t U = rw (ea, eb, ed) at U
 
-  pub of-tuned : (x : Fixed) (f0 : Float) (incs fades rows : List Float) (t : Tuning) → TunedTo v x f0 incs fades rows t → Tuned x (v .set .count) a b d (v .partials) f0 incs fades rows t
+  pub of-tuned : (x : Constants) (f0 : Float) (incs fades rows : List Float) (t : Tuning) → TunedTo v x f0 incs fades rows t → Tuned x (v .set .count) a b d (v .partials) f0 incs fades rows t
   of-tuned x f0 incs fades rows t U = rw (ea, eb, ed) U
 
   pub pitched-of : (f0 : Float) (p : Pitch) → PitchAt a b d (v .set .count) f0 p → PitchAt (pitches v) (stretches v) (mainlobes v) (v .set .count) f0 p

@@ -8,8 +8,8 @@ use Rattle.wire.specs.Parse.{pick}
 use Rattle.float.specs.Lerp.{lerp}
 use Rattle.float.specs.F32.{nearest}
 use Rattle.player.specs.Share.{shareOf}
-use Rattle.player.specs.declared.bracket.Bracket.{Bracket}
-use Rattle.player.specs.declared.bracket.Sides.{Sides}
+use Rattle.player.specs.declared.pitch.bracket.Bracket.{Bracket}
+use Rattle.player.specs.declared.pitch.bracket.Sides.{Sides}
 
 -- how many of the first n pitches, up to the last that is not above f0: that entry's index plus 1, or 0
 unfoldable pub notAbove : List Float → Float → ℕ → ℕ

@@ -54,11 +54,11 @@ added y c x = pick (ne c (nearest 0 1)) (y ⊕ x) y
 abbrev pub minusZero : Float
 minusZero = fin true 0 (pos 0)
 
-abbrev pub heard : Float → Float → Float
-heard c x = pick (ne c (nearest 0 1)) x minusZero
+abbrev pub audible : Float → Float → Float
+audible c x = pick (ne c (nearest 0 1)) x minusZero
 
 unfoldable pub singleTerm : Float → Float → Float → Float → Float → Float
-singleTerm coeff gain noiseGain makeup filtered = heard coeff (coeff ⊗ noiseGain ⊗ gain ⊗ makeup ⊗ filtered)
+singleTerm coeff gain noiseGain makeup filtered = audible coeff (coeff ⊗ noiseGain ⊗ gain ⊗ makeup ⊗ filtered)
 
 unfoldable pub blendTerm : Float → Float → Float → Float → Float → Float
-blendTerm power root noiseGain makeup filtered = heard power (root ⊗ noiseGain ⊗ makeup ⊗ filtered)
+blendTerm power root noiseGain makeup filtered = audible power (root ⊗ noiseGain ⊗ makeup ⊗ filtered)

@@ -1,4 +1,4 @@
--- One sample of a voice: what moves, and what is heard. The operations stand in the order of the Rust's `process`.
+-- One sample of a voice: what moves, and what is audible. The operations stand in the order of the Rust's `process`.
 use Prim.Native.Nat.{ℕ, zero, suc, _+_, _*_}
 use mathlib.Core.List.{List}
 use mathlib.Core.Bool.{Bool, true, false, cond}
@@ -17,7 +17,7 @@ use Rattle.filters.specs.Rng.{nextBipolar}
 use Rattle.filters.specs.Biquad.{tickOf}
 use Rattle.player.specs.Bracket.{bracketOf, sidesOf, between}
 use Rattle.voice.specs.Voice.{pitches, stretches, mainlobes, noiseGains, compensations, bandAt, memoryAt, withMemory, stateOf}
-use Rattle.player.specs.declared.bracket.Sides.{Sides}
+use Rattle.player.specs.declared.pitch.bracket.Sides.{Sides}
 use Rattle.filters.specs.declared.biquad.Tick.{Tick}
 use Rattle.filters.specs.declared.rng.Rng.{Rng}
 use Rattle.voice.specs.declared.voice.State.{State}

@@ -14,9 +14,9 @@ use Rattle.player.specs.Fade.{nyquistFade}
 use Rattle.float.specs.Range.{Within}
 use Rattle.player.specs.Bracket.{bracketOf, sidesOf, SidesIn, between}
 use Rattle.player.specs.Sound.{partialRow, noiseRow}
-use Rattle.player.specs.declared.bracket.Sides.{Sides}
-use Rattle.player.specs.declared.fixed.Fixed.{Fixed}
-use Rattle.player.specs.declared.pitch.Pitch.{Pitch}
+use Rattle.player.specs.declared.pitch.bracket.Sides.{Sides}
+use Rattle.player.specs.declared.constants.Constants.{Constants}
+use Rattle.player.specs.declared.pitch.kept.Pitch.{Pitch}
 use Rattle.player.specs.declared.tuning.NoiseTuning.{NoiseTuning}
 use Rattle.player.specs.declared.tuning.Tuning.{Tuning}
 
@@ -30,11 +30,11 @@ pub record PitchAt (pitches stretches mainlobes : List Float) (count : ℕ) (f0 
   pub small : Within 8 1 (p .stretch)
 
 -- a single voice has one row of coefficients, a blend one for each of its channels
-abbrev pub rowsIn : Fixed → ℕ
+abbrev pub rowsIn : Constants → ℕ
 rowsIn x = pick (eqb (x .blend) 0) 1 (x .k)
 
 -- the columns of the partials are those of the frequency f0
-module _ (x : Fixed) (count : ℕ) (pitches stretches mainlobes partials : List Float) where
+module _ (x : Constants) (count : ℕ) (pitches stretches mainlobes partials : List Float) where
   abbrev sides : Float → Sides
   sides f0 = sidesOf (bracketOf pitches count f0)
 
@@ -51,7 +51,7 @@ module _ (x : Fixed) (count : ℕ) (pitches stretches mainlobes partials : List 
     pub rows-are : FilledRows rows (λ q i. partialRow partials (sides f0) q i) (rowsIn x) (x .m)
 
 -- the columns of the live bands are those of the frequency f0
-pub record NoiseTuned (x : Fixed) (count n : ℕ) (pitches noiseGains noise : List Float) (live : List ℕ) (f0 : Float) (rows : List Float) (t : NoiseTuning) : Type 0 where
+pub record NoiseTuned (x : Constants) (count n : ℕ) (pitches noiseGains noise : List Float) (live : List ℕ) (f0 : Float) (rows : List Float) (t : NoiseTuning) : Type 0 where
   pub at : t .f0 ≡ f0
   pub noise-gain : t .«noise_gain» ≡ between noiseGains (sidesOf (bracketOf pitches count f0))
   pub rows-are : FilledRows rows (λ q l. noiseRow noise (sidesOf (bracketOf pitches count f0)) q (getD live l 0)) (rowsIn x) n

@@ -9,9 +9,9 @@ ghost use Rattle.voice.specs.Lists.{upTo};
 ghost use Rattle.voice.specs.Input.{frequencyOf, gainsOf};
 ghost use Rattle.voice.specs.Voice.{voiceOf, stateOf, phasesOk};
 ghost use Rattle.player.specs.Passes.{EntriesFit, VoiceFits, FrequenciesFit, partialsVoice, PartialsPlayed, ChannelPlayed};
-use crate::few::few_tones;
-use crate::noises::noises;
-use crate::tones::tones;
+use crate::partials::one_by_one::partials_one_by_one;
+use crate::noise::pass::noise_pass;
+use crate::partials::in_columns::partials_in_columns;
 use filters::Rng;
 use voice::Setting;
 
@@ -26,7 +26,7 @@ fn silence(out: &mut [f32])
 }
 
 // The partials: none, few, or so many that columns are worth while.
-fn all_tones(
+fn all_partials(
     set: Setting,
     lists: &[f32; 160],
     partials: &[f32; 2048],
@@ -48,10 +48,10 @@ fn all_tones(
         return;
     }
     if set.m < 4 {
-        few_tones(set, lists, partials, phases, freq, g0, g1, g2, g3, out);
+        partials_one_by_one(set, lists, partials, phases, freq, g0, g1, g2, g3, out);
         return;
     }
-    tones(set, lists, partials, phases, freq, g0, g1, g2, g3, out);
+    partials_in_columns(set, lists, partials, phases, freq, g0, g1, g2, g3, out);
 }
 
 // The inputs are the parts that the channel reads.
@@ -80,9 +80,9 @@ pub fn channel_of(
         silence(out);
         return rng;
     }
-    all_tones(set, lists, partials, phases, freq, g0, g1, g2, g3, out);
+    all_partials(set, lists, partials, phases, freq, g0, g1, g2, g3, out);
     if set.live_count == 0 {
         return rng;
     }
-    noises(set, lists, noise, memories, rng, freq, g0, g1, g2, g3, out)
+    noise_pass(set, lists, noise, memories, rng, freq, g0, g1, g2, g3, out)
 }

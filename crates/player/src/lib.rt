@@ -1,27 +1,15 @@
-// Playing a voice: one sample at a time in the private modules, then channels, blocks, and the two plays.
-mod bands;
+// Playing a voice. The way of a block: play asks the questions, block goes through the channels, channel through the two passes
+// (partials, one by one or in columns, and noise); input is what they read, pitch and tuning what a frequency decides.
 mod block;
-mod bracket;
 mod channel;
 mod columns;
-mod fade;
-mod few;
-mod fixed;
+mod constants;
 mod input;
 mod noise;
-mod noises;
 mod partials;
-mod partials_blend;
-mod phase;
-mod phases;
 mod pitch;
 mod playing;
-mod sines;
-mod stretch;
-mod tone;
-mod tones;
 mod tuning;
-mod whole;
 
 pub use playing::Moved;
 pub use playing::play;

@@ -16,15 +16,15 @@ ghost use Rattle.player.specs.Columns.{LiveIn};
 ghost use Rattle.voice.specs.Voice.{pitchOk, stretchOk};
 ghost use Rattle.player.specs.Sound.{partialRow};
 ghost use Rattle.player.specs.Tuning.{Tuned, NoiseTuned};
-use crate::bracket::Sides;
-use crate::bracket::sides_at;
-use crate::bracket::value_between;
+use crate::pitch::bracket::Sides;
+use crate::pitch::bracket::sides_at;
+use crate::pitch::bracket::value_between;
 use crate::columns::all_up_to;
-use crate::fade::nyquist_fade;
-use crate::fixed::Fixed;
-use crate::noise::noise_rows;
-use crate::phase::partial_freq;
-use crate::pitch::pitch_at;
+use crate::partials::fade::nyquist_fade;
+use crate::constants::Constants;
+use crate::noise::sum::noise_rows;
+use crate::partials::phase::partial_freq;
+use crate::pitch::kept::pitch_at;
 
 pub struct Tuning {
     pub f0: f32,
@@ -129,7 +129,7 @@ pub fn tune(
     incs: &mut [f32; 32],
     fades: &mut [f32; 32],
     rows: &mut [f32; 128],
-    x: Fixed,
+    x: Constants,
     count: usize,
     f0_hz: &[f32; 16],
     stretch: &[f32; 16],
@@ -161,7 +161,7 @@ pub fn tune_noise(
     was: NoiseTuning,
     f0: f32,
     rows: &mut [f32; 128],
-    x: Fixed,
+    x: Constants,
     count: usize,
     live_count: usize,
     f0_hz: &[f32; 16],

@@ -24,10 +24,10 @@ use filters::BiquadCoeffs;
 use filters::biquad_noise_power_gain;
 use sounder::Answer;
 use sounder::PlayedAnswer;
-use sounder::player_door::sounder_make;
-use sounder::player_door::sounder_play;
-use sounder::player_door::sounder_reseed;
-use sounder::player_door::sounder_reset;
+use sounder::voices::sounder_make;
+use sounder::voices::sounder_play;
+use sounder::voices::sounder_reseed;
+use sounder::voices::sounder_reset;
 use voice::Voice;
 
 // What a call leaves: the counts, the voice that the list goes on with, and where the next call stands.

@@ -12,10 +12,10 @@ use crate::tally::narrow;
 use crate::tally::same;
 use sounder::Answer;
 use sounder::DeskAnswer;
-use sounder::table_door::sounder_desk;
-use sounder::table_door::sounder_from_bytes;
-use sounder::table_door::sounder_name;
-use sounder::table_door::sounder_to_bytes;
+use sounder::images::sounder_desk;
+use sounder::images::sounder_from_bytes;
+use sounder::images::sounder_name;
+use sounder::images::sounder_to_bytes;
 
 fn read(t: Tally, r: &[u8], at: usize, ours: Answer) -> Tally {
     let t = same(t, b"the read's number", 0, ours.number, word(r, at));

@@ -1,8 +1,8 @@
 // Runs at the limits: each line is what was asked, and the number of the answer (0: accepted). The expected lines in `stdout` are document 01's.
 mod images;
 
-use sounder::player_door::sounder_make;
-use sounder::player_door::sounder_play;
+use sounder::voices::sounder_make;
+use sounder::voices::sounder_play;
 use voice::Voice;
 
 fn say(what: &[u8], number: u32) {

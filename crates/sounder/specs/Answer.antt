@@ -6,8 +6,8 @@ use Rattle.table.specs.Table.{CoeffTable}
 use Rattle.table.specs.declared.desk.Kind.{Kind}
 use Rattle.table.specs.Desk.{Outcome, desk, refusedBy}
 use Rattle.sounder.specs.declared.answer.Answer.{Answer}
-use Rattle.sounder.specs.declared.table_door.Place.{Place}
-use Rattle.sounder.specs.declared.table_door.DeskAnswer.{DeskAnswer}
+use Rattle.sounder.specs.declared.images.Place.{Place}
+use Rattle.sounder.specs.declared.images.DeskAnswer.{DeskAnswer}
 
 -- a refusal: the question's number and the values that it names
 abbrev pub refusalAnswer : Refusal → Answer

@@ -8,8 +8,8 @@ use Rattle.voice.specs.Input.{Call}
 use Rattle.voice.specs.Question.{Outcome}
 use Rattle.player.specs.Play.{played, playedOut}
 use Rattle.sounder.specs.Answer.{refusalAnswer}
-use Rattle.sounder.specs.declared.player_door.MadeAnswer.{MadeAnswer}
-use Rattle.sounder.specs.declared.player_door.PlayedAnswer.{PlayedAnswer}
+use Rattle.sounder.specs.declared.voices.MadeAnswer.{MadeAnswer}
+use Rattle.sounder.specs.declared.voices.PlayedAnswer.{PlayedAnswer}
 use Rattle.voice.specs.declared.voice.Voice.{Voice}
 
 abbrev pub madeAnswer : Made → MadeAnswer

@@ -4,7 +4,7 @@ ghost use lib.ListN.{length};
 use crate::options::Options;
 use crate::sink::Sink;
 use crate::sink::send;
-use sounder::player_door::sounder_play;
+use sounder::voices::sounder_play;
 use voice::Voice;
 
 // How far the playing has come: the voice, the bytes sent, the largest magnitude as a pattern, and the number of a refusal (0: none).

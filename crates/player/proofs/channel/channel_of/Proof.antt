@@ -20,8 +20,8 @@ returns c =
     let b12 = b4 .before .before .before .before .before .before .before .before in
     ends-still (b12 .args .set) (b12 .args .lists .now) (b12 .args .partials .now) (b12 .args .noise .now) (b12 .args .phases .now) (b12 .args .memories .now) (b12 .args .rng) (frequencyOf (b12 .args .freq .now)) (gainsOf (b12 .args .g0 .now) (b12 .args .g1 .now) (b12 .args .g2 .now) (b12 .args .g3 .now)) (length (b12 .args .out .now)) (eq-eqb _ _ (b4 .if1 .taken)) _ (b2 .silence .ensures)
 
-all-tones-requires : tie.Need-all-tones-requires
-all-tones-requires c κs = search needs
+all-partials-requires : tie.Need-all-partials-requires
+all-partials-requires c κs = search needs
 
 same-length-2 : tie.Need-same-length-2
 same-length-2 c = search needs
@@ -31,10 +31,10 @@ returns-2 c =
     let b4 = c .before .before .before .before in
     let b7 = b4 .before .before .before in
     let b15 = b7 .before .before .before .before .before .before .before .before in
-    ends-tones (b15 .args .set) (b15 .args .lists .now) (b15 .args .partials .now) (b15 .args .noise .now) (b15 .args .phases .now) (b15 .args .memories .now) (b15 .args .rng) (frequencyOf (b15 .args .freq .now)) (gainsOf (b15 .args .g0 .now) (b15 .args .g1 .now) (b15 .args .g2 .now) (b15 .args .g3 .now)) (length (b15 .args .out .now)) (ne-eqb _ _ (b7 .if1 .left)) (c .if2 .taken) _ _ (b4 .all-tones .ensures)
+    ends-tones (b15 .args .set) (b15 .args .lists .now) (b15 .args .partials .now) (b15 .args .noise .now) (b15 .args .phases .now) (b15 .args .memories .now) (b15 .args .rng) (frequencyOf (b15 .args .freq .now)) (gainsOf (b15 .args .g0 .now) (b15 .args .g1 .now) (b15 .args .g2 .now) (b15 .args .g3 .now)) (length (b15 .args .out .now)) (ne-eqb _ _ (b7 .if1 .left)) (c .if2 .taken) _ _ (b4 .all-partials .ensures)
 
-noises-requires : tie.Need-noises-requires
-noises-requires c κs = search needs
+noise-pass-requires : tie.Need-noise-pass-requires
+noise-pass-requires c κs = search needs
 
 same-length-3 : tie.Need-same-length-3
 same-length-3 c = search needs
@@ -45,7 +45,7 @@ returns-3 c =
     let b9 = b2 .before .before .before .before .before .before .before in
     let b12 = b9 .before .before .before in
     let b20 = b12 .before .before .before .before .before .before .before .before in
-    ends-noisy (b20 .args .set) (b20 .args .lists .now) (b20 .args .partials .now) (b20 .args .noise .now) (b20 .args .phases .now) (b20 .args .memories .now) (b20 .args .rng) (frequencyOf (b20 .args .freq .now)) (gainsOf (b20 .args .g0 .now) (b20 .args .g1 .now) (b20 .args .g2 .now) (b20 .args .g3 .now)) (length (b20 .args .out .now)) (ne-eqb _ _ (b12 .if1 .left)) _ _ _ _ _ (b9 .all-tones .ensures) (b2 .noises .ensures)
+    ends-noisy (b20 .args .set) (b20 .args .lists .now) (b20 .args .partials .now) (b20 .args .noise .now) (b20 .args .phases .now) (b20 .args .memories .now) (b20 .args .rng) (frequencyOf (b20 .args .freq .now)) (gainsOf (b20 .args .g0 .now) (b20 .args .g1 .now) (b20 .args .g2 .now) (b20 .args .g3 .now)) (length (b20 .args .out .now)) (ne-eqb _ _ (b12 .if1 .left)) _ _ _ _ _ (b9 .all-partials .ensures) (b2 .noise-pass .ensures)
 
 pub channel-of-spec : {M : Type 1} → statement M
 channel-of-spec =
@@ -54,9 +54,9 @@ channel-of-spec =
     silence-requires
     same-length
     returns
-    all-tones-requires
+    all-partials-requires
     same-length-2
     returns-2
-    noises-requires
+    noise-pass-requires
     same-length-3
     returns-3)

@@ -1,0 +1,195 @@
+// The noise of a sample: the number that every live band hears, and what a band adds.
+ghost use mathlib.Core.Path.{_≡_};
+ghost use Prim.Native.Nat.{_≤_, _<_, _+_, _*_};
+ghost use lib.ListN.{getD};
+ghost use lib.Dec.{eqb};
+ghost use lib.Ieee.{nan};
+ghost use Rattle.wire.specs.Parse.{pick};
+ghost use Rattle.float.specs.Sqrt.{sqrt};
+ghost use Rattle.float.specs.F32.{_⊕_, _⊗_};
+ghost use Rattle.voice.specs.Lists.{Filled, FilledRows, steps};
+ghost use Rattle.player.specs.Bracket.{SidesIn};
+ghost use Rattle.player.specs.Columns.{LiveIn, singleTerm, blendTerm};
+ghost use Rattle.filters.specs.Rng.{nextBipolar};
+ghost use Rattle.player.specs.Sound.{addNoiseSingle, addNoiseBlend, blendPower, noiseRow, noiseIn};
+use crate::pitch::bracket::Sides;
+use crate::columns::fill;
+use crate::columns::sum_of;
+use filters::Bipolar;
+use filters::Rng;
+
+const UNIT_VARIANCE: f32 = 1.7320508;
+
+// The generator steps only where a band is live.
+pub fn noise_step(live_count: usize, rng: Rng) -> Bipolar
+    ensures { λ r. ⌜ (r .value ≡ noiseIn rng) × (r .rng ≡ pick (eqb «live_count» 0) rng (nextBipolar rng .rng)) ⌝ }
+{
+    let next = rng.next_bipolar();
+    let value = next.value * UNIT_VARIANCE;
+    if live_count == 0 {
+        return Bipolar { rng, value };
+    }
+    let after = next.rng;
+    Bipolar { rng: after, value }
+}
+
+// Row q, after the q rows before it: channel q's coefficients of the live bands between the two sides.
+fn noise_row(
+    rows: &mut [f32; 128],
+    noise: &[f32; 1024],
+    live: &[usize; 16],
+    s: Sides,
+    q: usize,
+    n: usize,
+)
+    requires { ⌜ SidesIn 16 s × (q < 4) × (n ≤ 16) × LiveIn (now live) n × FilledRows (now rows) (λ q l. noiseRow (now noise) s q (getD (now live) l 0)) q n ⌝ }
+    ensures { λ r. ⌜ FilledRows (now (rows .exit)) (λ q l. noiseRow (now (noise .entry)) s q (getD (now (live .entry)) l 0)) (q + 1) n ⌝ }
+{
+    let places = &mut rows[..];
+    let mut l = 0;
+    while l < n {
+        let at = q * 16 + live[l];
+        let lo = s.lo * 64 + at;
+        let hi = s.hi * 64 + at;
+        let to = q * 32 + l;
+        places[to] = float::lerp(noise[lo], noise[hi], s.t);
+        l += 1;
+    }
+}
+
+// The rows of k channels.
+pub fn noise_rows(
+    rows: &mut [f32; 128],
+    noise: &[f32; 1024],
+    live: &[usize; 16],
+    s: Sides,
+    k: usize,
+    n: usize,
+)
+    requires { ⌜ SidesIn 16 s × (k ≤ 4) × (n ≤ 16) × LiveIn (now live) n ⌝ }
+    ensures { λ r. ⌜ FilledRows (now (rows .exit)) (λ q l. noiseRow (now (noise .entry)) s q (getD (now (live .entry)) l 0)) k n ⌝ }
+{
+    let mut q = 0;
+    while q < k {
+        noise_row(rows, noise, live, s, q, n);
+        q += 1;
+    }
+}
+
+// What each live band of a single voice adds. The store and then the store under a test are what the processor does several of at once.
+fn single_terms<'a>(
+    terms: &mut [f32; 32],
+    rows: &'a [f32; 128],
+    gain: f32,
+    noise_gain: f32,
+    makeup: &'a [f32; 32],
+    ys: &'a [f32; 32],
+    n: usize,
+)
+    requires { ⌜ n ≤ 32 ⌝ }
+    ensures { λ r. ⌜ Filled (now (terms .exit)) (λ l. singleTerm (getD (now (rows .entry)) l nan) gain «noise_gain» (getD (now (makeup .entry)) l nan) (getD (now (ys .entry)) l nan)) n ⌝ }
+{
+    let s = &mut terms[..];
+    let mut l = 0;
+    while l < n {
+        s[l] = rows[l] * noise_gain * gain * makeup[l] * ys[l];
+        if rows[l] == 0.0 {
+            s[l] = -0.0;
+        }
+        l += 1;
+    }
+}
+
+// Channel q's squares, added to the powers.
+fn add_powers(powers: &mut [f32; 32], rows: &[f32; 128], gain: f32, q: usize, n: usize)
+    requires { ⌜ (q < 4) × (n ≤ 32) ⌝ }
+    ensures { λ r. ⌜ Filled (now (powers .exit)) (λ l. getD (now (powers .entry)) l nan ⊕ (gain ⊗ getD (now (rows .entry)) (q * 32 + l) nan) ⊗ (gain ⊗ getD (now (rows .entry)) (q * 32 + l) nan)) n ⌝ }
+{
+    let s = &mut powers[..];
+    let mut l = 0;
+    while l < n {
+        let at = q * 32 + l;
+        let x = gain * rows[at];
+        s[l] = s[l] + x * x;
+        l += 1;
+    }
+}
+
+// The power of each live band over k channels.
+fn blend_powers<'a>(
+    powers: &mut [f32; 32],
+    rows: &'a [f32; 128],
+    gains: &'a [f32; 4],
+    k: usize,
+    n: usize,
+)
+    requires { ⌜ (k ≤ 4) × (n ≤ 32) ⌝ }
+    ensures { λ r. ⌜ Filled (now (powers .exit)) (λ l. blendPower (λ q. getD (now (rows .entry)) (q * 32 + l) nan) (now (gains .entry)) k) n ⌝ }
+{
+    fill(powers, n, 0.0);
+    let mut q = 0;
+    while q < k {
+        add_powers(powers, rows, gains[q], q, n);
+        q += 1;
+    }
+}
+
+// The roots of the powers.
+fn roots(terms: &mut [f32; 32], powers: &[f32; 32], n: usize)
+    requires { ⌜ n ≤ 32 ⌝ }
+    ensures { λ r. ⌜ Filled (now (terms .exit)) (λ l. sqrt (getD (now (powers .entry)) l nan)) n ⌝ }
+{
+    let s = &mut terms[..];
+    let p = &powers[..];
+    float::sqrt_each(s, p, n);
+}
+
+// What each live band of a blend adds, where the terms hold the roots of the powers.
+fn blend_terms<'a>(
+    terms: &mut [f32; 32],
+    powers: &'a [f32; 32],
+    noise_gain: f32,
+    makeup: &'a [f32; 32],
+    ys: &'a [f32; 32],
+    n: usize,
+)
+    requires { ⌜ n ≤ 32 ⌝ }
+    ensures { λ r. ⌜ Filled (now (terms .exit)) (λ l. blendTerm (getD (now (powers .entry)) l nan) (getD (now (terms .entry)) l nan) «noise_gain» (getD (now (makeup .entry)) l nan) (getD (now (ys .entry)) l nan)) n ⌝ }
+{
+    let s = &mut terms[..];
+    let mut l = 0;
+    while l < n {
+        s[l] = s[l] * noise_gain * makeup[l] * ys[l];
+        if powers[l] == 0.0 {
+            s[l] = -0.0;
+        }
+        l += 1;
+    }
+}
+
+// The sample y with what the live bands add to it. Terms and powers are lent to be written on.
+pub fn noise_sum<'a>(
+    y: f32,
+    terms: &mut [f32; 32],
+    powers: &mut [f32; 32],
+    rows: &'a [f32; 128],
+    gains: &'a [f32; 4],
+    blend: u32,
+    k: usize,
+    noise_gain: f32,
+    makeup: &'a [f32; 32],
+    ys: &'a [f32; 32],
+    n: usize,
+) -> f32
+    requires { ⌜ (n ≤ 16) × (k ≤ 4) ⌝ }
+    ensures { λ r. ⌜ r ≡ steps (λ l y. pick (eqb blend 0) (addNoiseSingle y (getD (now (rows .entry)) l nan) (getD (now (gains .entry)) 0 nan) «noise_gain» (getD (now (makeup .entry)) l nan) (getD (now (ys .entry)) l nan)) (addNoiseBlend y (blendPower (λ q. getD (now (rows .entry)) (q * 32 + l) nan) (now (gains .entry)) k) «noise_gain» (getD (now (makeup .entry)) l nan) (getD (now (ys .entry)) l nan))) y n ⌝ }
+{
+    if blend == 0 {
+        single_terms(terms, rows, gains[0], noise_gain, makeup, ys, n);
+        return sum_of(y, terms, n);
+    }
+    blend_powers(powers, rows, gains, k, n);
+    roots(terms, powers, n);
+    blend_terms(terms, powers, noise_gain, makeup, ys, n);
+    sum_of(y, terms, n)
+}

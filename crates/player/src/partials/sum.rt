@@ -1,0 +1,117 @@
+// The sum of the partials, of a single voice or of a blend.
+ghost use mathlib.Core.Path.{_≡_};
+ghost use Prim.Native.Nat.{_≤_, _<_, _+_, _*_};
+ghost use lib.ListN.{getD};
+ghost use lib.Dec.{eqb};
+ghost use lib.Ieee.{nan};
+ghost use Rattle.wire.specs.Parse.{pick};
+ghost use Rattle.float.specs.F32.{_⊕_, _⊗_, nearest};
+ghost use Rattle.voice.specs.Lists.{Filled, steps};
+ghost use Rattle.player.specs.Sound.{blendCoeff};
+ghost use Rattle.player.specs.Columns.{audible, added};
+use crate::columns::fill;
+use crate::columns::sum_of;
+
+// A single voice: the coefficient, and gain 0. A partial without a coefficient adds -0, which changes nothing.
+fn terms_single<'a>(
+    terms: &mut [f32; 32],
+    rows: &'a [f32; 128],
+    mainlobe: f32,
+    fades: &'a [f32; 32],
+    gain: f32,
+    sines: &'a [f32; 32],
+    m: usize,
+)
+    requires { ⌜ m ≤ 32 ⌝ }
+    ensures { λ r. ⌜ Filled (now (terms .exit)) (λ i. audible (getD (now (rows .entry)) i nan) (getD (now (rows .entry)) i nan ⊗ mainlobe ⊗ getD (now (fades .entry)) i nan ⊗ gain ⊗ getD (now (sines .entry)) i nan)) m ⌝ }
+{
+    let ts = &mut terms[..];
+    let mut i = 0;
+    while i < m {
+        ts[i] = rows[i] * mainlobe * fades[i] * gain * sines[i];
+        if rows[i] == 0.0 {
+            ts[i] = -0.0;
+        }
+        i += 1;
+    }
+}
+
+fn terms_blend<'a>(
+    terms: &mut [f32; 32],
+    coeffs: &'a [f32; 32],
+    mainlobe: f32,
+    fades: &'a [f32; 32],
+    sines: &'a [f32; 32],
+    m: usize,
+)
+    requires { ⌜ m ≤ 32 ⌝ }
+    ensures { λ r. ⌜ Filled (now (terms .exit)) (λ i. audible (getD (now (coeffs .entry)) i nan) (getD (now (coeffs .entry)) i nan ⊗ mainlobe ⊗ getD (now (fades .entry)) i nan ⊗ getD (now (sines .entry)) i nan)) m ⌝ }
+{
+    let ts = &mut terms[..];
+    let mut i = 0;
+    while i < m {
+        ts[i] = coeffs[i] * mainlobe * fades[i] * sines[i];
+        if coeffs[i] == 0.0 {
+            ts[i] = -0.0;
+        }
+        i += 1;
+    }
+}
+
+// One channel's share of every coefficient.
+fn add_row(coeffs: &mut [f32; 32], rows: &[f32; 128], q: usize, gain: f32, m: usize)
+    requires { ⌜ (q < 4) × (m ≤ 32) ⌝ }
+    ensures { λ r. ⌜ Filled (now (coeffs .exit)) (λ i. getD (now (coeffs .entry)) i nan ⊕ gain ⊗ getD (now (rows .entry)) (q * 32 + i) nan) m ⌝ }
+{
+    let cs = &mut coeffs[..];
+    let mut i = 0;
+    while i < m {
+        let at = q * 32 + i;
+        cs[i] = cs[i] + gain * rows[at];
+        i += 1;
+    }
+}
+
+// The sums of gains times coefficients over k channels.
+fn blend_coeffs<'a>(
+    coeffs: &mut [f32; 32],
+    rows: &'a [f32; 128],
+    gains: &'a [f32; 4],
+    k: usize,
+    m: usize,
+)
+    requires { ⌜ (k ≤ 4) × (m ≤ 32) ⌝ }
+    ensures { λ r. ⌜ Filled (now (coeffs .exit)) (λ i. blendCoeff (λ q. getD (now (rows .entry)) (q * 32 + i) nan) (now (gains .entry)) k) m ⌝ }
+{
+    fill(coeffs, m, 0.0);
+    let mut q = 0;
+    while q < k {
+        add_row(coeffs, rows, q, gains[q], m);
+        q += 1;
+    }
+}
+
+// `terms` and `coeffs` are lent to work in.
+pub fn partial_sum<'a>(
+    terms: &mut [f32; 32],
+    coeffs: &mut [f32; 32],
+    rows: &'a [f32; 128],
+    mainlobe: f32,
+    fades: &'a [f32; 32],
+    gains: &'a [f32; 4],
+    sines: &'a [f32; 32],
+    blend: u32,
+    k: usize,
+    m: usize,
+) -> f32
+    requires { ⌜ (k ≤ 4) × (m ≤ 32) ⌝ }
+    ensures { λ r. ⌜ r ≡ steps (λ i y. pick (eqb blend 0) (added y (getD (now (rows .entry)) i nan) (getD (now (rows .entry)) i nan ⊗ mainlobe ⊗ getD (now (fades .entry)) i nan ⊗ getD (now (gains .entry)) 0 nan ⊗ getD (now (sines .entry)) i nan)) (added y (blendCoeff (λ q. getD (now (rows .entry)) (q * 32 + i) nan) (now (gains .entry)) k) (blendCoeff (λ q. getD (now (rows .entry)) (q * 32 + i) nan) (now (gains .entry)) k ⊗ mainlobe ⊗ getD (now (fades .entry)) i nan ⊗ getD (now (sines .entry)) i nan))) (nearest 0 1) m ⌝ }
+{
+    if blend == 0 {
+        terms_single(terms, rows, mainlobe, fades, gains[0], sines, m);
+        return sum_of(0.0, terms, m);
+    }
+    blend_coeffs(coeffs, rows, gains, k, m);
+    terms_blend(terms, coeffs, mainlobe, fades, sines, m);
+    sum_of(0.0, terms, m)
+}
