@@ -11,7 +11,7 @@ use table::desk::Kind;
 use table::entry::EntryView;
 
 pub struct Live {
-    pub bands: [usize; 16],
+    pub bands: [u8; 16],
     pub count: usize,
 }
 
@@ -58,13 +58,13 @@ fn is_live(s: &[u8], views: [EntryView; 16], count: usize, kind: Kind, n: u32, b
 
 // One band more, if it is live.
 fn add_live(live: Live, b: u32, is: bool) -> Live
-    requires { ⌜ live .count < 16 ⌝ }
+    requires { ⌜ live .count < 16 ⌝ ∗ ⌜ b < 16 ⌝ }
     ensures { λ r. ⌜ r ≡ addLive live b is ⌝ }
 {
     if is {
         let mut bands = live.bands;
         let count = live.count;
-        bands[count] = b as usize;
+        bands[count] = b as u8;
         return Live {
             bands,
             count: count + 1,

@@ -167,7 +167,7 @@ pub fn tune_noise(
     f0_hz: &[f32; 16],
     noise_gain: &[f32; 16],
     noise: &[f32; 1024],
-    live: &[usize; 16],
+    live: &[u8; 16],
 ) -> NoiseTuning
     requires { ⌜ (1 ≤ count) × (count ≤ 16) × (every (λ i. pitchOk (getD (now «f0_hz») i nan)) count ≡ true) × Within 20000 1 f0 ⌝ }
     requires { ⌜ (x .k ≤ 4) × («live_count» ≤ 16) × LiveIn (now live) «live_count» ⌝ }

@@ -16,6 +16,7 @@ pub use lists::MAINLOBE_GAINS;
 pub use lists::NOISE_GAINS;
 pub use lists::PITCHES;
 pub use lists::STRETCHES;
+pub use lists::band_of;
 pub use lists::list_of;
 pub use question::play_question;
 pub use restart::first_state;

@@ -27,3 +27,10 @@ pub fn list_of(lists: &[f32; 160], n: usize) -> [f32; 16]
     }
     list
 }
+
+// A live band's number as an index.
+pub fn band_of(live: u8) -> usize
+    ensures { λ r. ⌜ r ≡ live ⌝ }
+{
+    live as usize
+}

@@ -9,6 +9,7 @@ ghost use Rattle.voice.specs.Lists.{every};
 ghost use Rattle.voice.specs.Voice.{phaseOk, pitchOk, stretchOk, rateOk, pitchesAscend, bandsAscend, phasesOk, rulesOf, keepsRules};
 use crate::lists::PITCHES;
 use crate::lists::STRETCHES;
+use crate::lists::band_of;
 use crate::lists::list_of;
 use crate::voice::Setting;
 use crate::voice::Voice;
@@ -95,20 +96,20 @@ fn pitches_ascend(f0_hz: &[f32; 16], count: usize) -> bool
     ok
 }
 
-fn live_below(live: &[usize; 16], n: usize, j: usize) -> bool
+fn live_below(live: &[u8; 16], n: usize, j: usize) -> bool
     requires { ⌜ n ≤ 16 ⌝ }
     ensures { λ r. ⌜ r ≡ every (λ i. ltb (getD (now (live .entry)) i 0) j) n ⌝ }
 {
     let mut ok = true;
     let mut i = 0;
     while i < n {
-        ok = both(ok, live[i] < j);
+        ok = both(ok, band_of(live[i]) < j);
         i += 1;
     }
     ok
 }
 
-fn bands_ascend(live: &[usize; 16], n: usize) -> bool
+fn bands_ascend(live: &[u8; 16], n: usize) -> bool
     requires { ⌜ n ≤ 16 ⌝ }
     ensures { λ r. ⌜ r ≡ bandsAscend (now (live .entry)) n ⌝ }
 {

@@ -20,7 +20,7 @@ pub struct Setting {
     pub j: usize, // bands
     pub live_count: usize, // live bands, and below which they are
     pub sample_rate: f32,
-    pub live: [usize; 16],
+    pub live: [u8; 16],
 }
 
 // Places that are not in use are 0 in a fresh voice. A play leaves them as given; reset and reseed write all of the state.

@@ -5,13 +5,14 @@ ghost use lib.ListN.{length, getD};
 ghost use lib.Ieee.{nan};
 ghost use Rattle.voice.specs.Lists.{Filled, FilledRows};
 ghost use Rattle.player.specs.Columns.{LiveIn, Memories, Coeffs, Ticked, scattered};
+use voice::band_of;
 
 // The memories of the live bands, which lie two a band in 32 places.
 pub fn gather_memories(
     z1: &mut [f32; 32],
     z2: &mut [f32; 32],
     memories: &[f32; 32],
-    live: &[usize; 16],
+    live: &[u8; 16],
     n: usize,
 )
     requires { ⌜ (n ≤ 16) × LiveIn (now live) n ⌝ }
@@ -23,7 +24,7 @@ pub fn gather_memories(
     let s2 = &mut z2[..];
     let mut l = 0;
     while l < n {
-        let at = live[l] * 2;
+        let at = band_of(live[l]) * 2;
         s1[l] = ms[at];
         s2[l] = ms[at + 1];
         l += 1;
@@ -34,7 +35,7 @@ pub fn gather_memories(
 fn gather_row(
     coeffs: &mut [f32; 160],
     lists: &[f32; 160],
-    live: &[usize; 16],
+    live: &[u8; 16],
     q: usize,
     n: usize,
 )
@@ -44,7 +45,7 @@ fn gather_row(
     let places = &mut coeffs[..];
     let mut l = 0;
     while l < n {
-        let from = 64 + live[l] * 5 + q;
+        let from = 64 + band_of(live[l]) * 5 + q;
         let to = q * 32 + l;
         places[to] = lists[from];
         l += 1;
@@ -55,7 +56,7 @@ fn gather_row(
 pub fn gather_coeffs(
     coeffs: &mut [f32; 160],
     lists: &[f32; 160],
-    live: &[usize; 16],
+    live: &[u8; 16],
     n: usize,
 )
     requires { ⌜ (n ≤ 16) × LiveIn (now live) n ⌝ }
@@ -72,7 +73,7 @@ pub fn gather_coeffs(
 pub fn gather_makeup(
     makeup: &mut [f32; 32],
     compensation: &[f32; 16],
-    live: &[usize; 16],
+    live: &[u8; 16],
     n: usize,
 )
     requires { ⌜ (n ≤ 16) × LiveIn (now live) n ⌝ }
@@ -81,7 +82,7 @@ pub fn gather_makeup(
     let s = &mut makeup[..];
     let mut l = 0;
     while l < n {
-        let b = live[l];
+        let b = band_of(live[l]);
         s[l] = compensation[b];
         l += 1;
     }
@@ -115,7 +116,7 @@ pub fn tick_bands(
 // The columns back into the memories of the live bands.
 pub fn scatter_memories(
     memories: &mut [f32; 32],
-    live: &[usize; 16],
+    live: &[u8; 16],
     z1: &[f32; 32],
     z2: &[f32; 32],
     n: usize,
@@ -126,7 +127,7 @@ pub fn scatter_memories(
     let s = &mut memories[..];
     let mut l = 0;
     while l < n {
-        let at = live[l] * 2;
+        let at = band_of(live[l]) * 2;
         s[at] = z1[l];
         s[at + 1] = z2[l];
         l += 1;

@@ -17,6 +17,7 @@ use crate::columns::fill;
 use crate::columns::sum_of;
 use filters::Bipolar;
 use filters::Rng;
+use voice::band_of;
 
 const UNIT_VARIANCE: f32 = 1.7320508;
 
@@ -37,7 +38,7 @@ pub fn noise_step(live_count: usize, rng: Rng) -> Bipolar
 fn noise_row(
     rows: &mut [f32; 128],
     noise: &[f32; 1024],
-    live: &[usize; 16],
+    live: &[u8; 16],
     s: Sides,
     q: usize,
     n: usize,
@@ -48,7 +49,7 @@ fn noise_row(
     let places = &mut rows[..];
     let mut l = 0;
     while l < n {
-        let at = q * 16 + live[l];
+        let at = q * 16 + band_of(live[l]);
         let lo = s.lo * 64 + at;
         let hi = s.hi * 64 + at;
         let to = q * 32 + l;
@@ -61,7 +62,7 @@ fn noise_row(
 pub fn noise_rows(
     rows: &mut [f32; 128],
     noise: &[f32; 1024],
-    live: &[usize; 16],
+    live: &[u8; 16],
     s: Sides,
     k: usize,
     n: usize,

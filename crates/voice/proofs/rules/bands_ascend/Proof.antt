@@ -25,17 +25,11 @@ loop-holds c =
 add-loop : tie.Need-add-loop Inv-loop μ-loop
 add-loop c = search needs
 
-mul-both : tie.Need-mul-both Inv-loop μ-loop
-mul-both c = search needs
-
 element-copy-out-both : tie.Need-element-copy-out-both Inv-loop μ-loop
 element-copy-out-both c = search needs
 
 add-both : tie.Need-add-both Inv-loop μ-loop
 add-both c = search needs
-
-mul-both-2 : tie.Need-mul-both-2 Inv-loop μ-loop
-mul-both-2 c = search needs
 
 element-copy-out-both-2 : tie.Need-element-copy-out-both-2 Inv-loop μ-loop
 element-copy-out-both-2 c = search needs
@@ -68,10 +62,8 @@ bands-ascend-spec =
     μ-loop
     loop-holds
     add-loop
-    mul-both
     element-copy-out-both
     add-both
-    mul-both-2
     element-copy-out-both-2
     both-requires
     add-i

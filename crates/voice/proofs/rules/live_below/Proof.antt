@@ -22,11 +22,11 @@ unfolding steps
 loop-holds c =
     (omega arith, refl)
 
-mul-both : tie.Need-mul-both Inv-loop μ-loop
-mul-both c = search needs
+element-copy-out-band-of : tie.Need-element-copy-out-band-of Inv-loop μ-loop
+element-copy-out-band-of c = search needs
 
-element-copy-out-both : tie.Need-element-copy-out-both Inv-loop μ-loop
-element-copy-out-both c = search needs
+band-of-requires : tie.Need-band-of-requires Inv-loop μ-loop
+band-of-requires c κs = search needs
 
 both-requires : tie.Need-both-requires Inv-loop μ-loop
 both-requires c κs = search needs
@@ -39,9 +39,10 @@ loop-less c = search needs
 
 loop-again : tie.Need-loop-again Inv-loop μ-loop
 loop-again c =
-    let b3 = c .before .before .before in
-    let b4 = b3 .before in
-    (omega arith, rw (c .both .ensures) (steps-again (λ i b. b && ltb (getD (b4 .args .live .now) i 0) (b4 .args .j)) true _ (b3 .loop .i) (b3 .loop .inv .1)))
+    let b1 = c .before in
+    let b4 = b1 .before .before .before in
+    let b5 = b4 .before in
+    (omega arith, rw (c .both .ensures, b1 .band-of .ensures) (steps-again (λ i b. b && ltb (getD (b5 .args .live .now) i 0) (b5 .args .j)) true _ (b4 .loop .i) (b4 .loop .inv .1)))
 
 returns : tie.Need-returns Inv-loop μ-loop
 returns c =
@@ -55,8 +56,8 @@ live-below-spec =
     Inv-loop
     μ-loop
     loop-holds
-    mul-both
-    element-copy-out-both
+    element-copy-out-band-of
+    band-of-requires
     both-requires
     add-i
     loop-less

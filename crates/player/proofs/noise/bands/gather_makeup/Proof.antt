@@ -1,5 +1,5 @@
 -- `gather_makeup` meets its contract.
-use mathlib.Core.Path.{_≡_, refl}
+use mathlib.Core.Path.{_≡_, refl, _∙_}
 use Prim.Native.Nat.{_-_, _≤_, _<_}
 use native.Mathlib.Omega.{arith}
 use lib.ListN.{length, getD, length-set}
@@ -16,31 +16,28 @@ Inv-loop compensation live n s₀ l₀ s l = (l ≤ n) × (length s ≡ 32) × F
 abbrev μ-loop : tie.MeasureT-loop
 μ-loop compensation live n s₀ l₀ s l = n - l
 
--- a live band is one of 16
-band : (c : tie.In-loop Inv-loop μ-loop) → let b1 = c .before in let b2 = b1 .before .before in getD (b2 .args .live .now) (b1 .loop .l) 0 < 16
-band c =
-    let b1 = c .before in
-    let b2 = b1 .before .before in
-    b2 .pre .1 .below (b1 .loop .l) (c .loop-test .taken)
-
 loop-holds : tie.Need-loop-holds Inv-loop μ-loop
 loop-holds c = (omega arith, search needs, filled-none _ _)
 
-mul-b : tie.Need-mul-b Inv-loop μ-loop
-mul-b c = search needs
+element-copy-out-band-of : tie.Need-element-copy-out-band-of Inv-loop μ-loop
+element-copy-out-band-of c = search needs
 
-element-copy-out-b : tie.Need-element-copy-out-b Inv-loop μ-loop
-element-copy-out-b c = search needs
+band-of-requires : tie.Need-band-of-requires Inv-loop μ-loop
+band-of-requires c κs = search needs
 
 mul-s : tie.Need-mul-s Inv-loop μ-loop
 mul-s c =
-    let b1 = c .before in
-    omega (arith, band b1)
+    let b2 = c .before .before in
+    let b3 = b2 .before in
+    let b5 = b3 .before .before in
+    let B = b5 .pre .1 .below (b3 .loop .l) (b2 .loop-test .taken) in let e = c .band-of .ensures in omega (arith, B, e)
 
 element-copy-out-s : tie.Need-element-copy-out-s Inv-loop μ-loop
 element-copy-out-s c =
-    let b1 = c .before in
-    omega (arith, band b1)
+    let b2 = c .before .before in
+    let b3 = b2 .before in
+    let b5 = b3 .before .before in
+    let B = b5 .pre .1 .below (b3 .loop .l) (b2 .loop-test .taken) in let e = c .band-of .ensures in omega (arith, B, e)
 
 mul-s-2 : tie.Need-mul-s-2 Inv-loop μ-loop
 mul-s-2 c = search needs
@@ -56,8 +53,11 @@ loop-less c = search needs
 
 loop-again : tie.Need-loop-again Inv-loop μ-loop
 loop-again c =
-    let b3 = c .before .before .before in
-    (omega arith, simp length-set (b3 .loop .inv .1), filled-again _ (b3 .loop .s) (b3 .loop .l) _ (omega arith) refl (b3 .loop .inv .2))
+    let b1 = c .before in
+    let b3 = b1 .before .before in
+    let b4 = b3 .before in
+    let b6 = b4 .before .before in
+    (omega (arith, b3 .loop-test .taken), simp length-set (b4 .loop .inv .1), filled-again _ (b4 .loop .s) (b4 .loop .l) _ (omega (arith, b3 .loop-test .taken, b4 .loop .inv .1, b6 .pre .0)) (rw (b1 .band-of .ensures)) (b4 .loop .inv .2))
 
 returns : tie.Need-returns Inv-loop μ-loop
 returns c =
@@ -71,8 +71,8 @@ gather-makeup-spec =
     Inv-loop
     μ-loop
     loop-holds
-    mul-b
-    element-copy-out-b
+    element-copy-out-band-of
+    band-of-requires
     mul-s
     element-copy-out-s
     mul-s-2

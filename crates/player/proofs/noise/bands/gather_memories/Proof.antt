@@ -1,4 +1,4 @@
-use mathlib.Core.Path.{_≡_, refl, sym}
+use mathlib.Core.Path.{_≡_, refl, sym, _∙_}
 use native.Mathlib.Omega.{arith}
 use Prim.Native.Nat.{_-_, _≤_, _<_}
 use lib.ListN.{length, getD, length-set}
@@ -21,32 +21,33 @@ loop-holds : tie.Need-loop-holds Inv-loop μ-loop
 loop-holds c =
     (omega arith, search needs, search needs, search needs, record { at = λ l h. absurd (omega arith) })
 
+element-copy-out-band-of : tie.Need-element-copy-out-band-of Inv-loop μ-loop
+element-copy-out-band-of c = search needs
+
+band-of-requires : tie.Need-band-of-requires Inv-loop μ-loop
+band-of-requires c κs = search needs
+
 mul-at : tie.Need-mul-at Inv-loop μ-loop
-mul-at c = search needs
-
-element-copy-out-at : tie.Need-element-copy-out-at Inv-loop μ-loop
-element-copy-out-at c = search needs
-
-mul-at-2 : tie.Need-mul-at-2 Inv-loop μ-loop
-mul-at-2 c =
-    let b1 = c .before in
-    let b2 = b1 .before in
-    let b6 = b2 .before .before .before .before in
-    omega (arith, b6 .pre .1 .below (b2 .loop .l) (b1 .loop-test .taken))
-
-mul-s1 : tie.Need-mul-s1 Inv-loop μ-loop
-mul-s1 c =
-    let b1 = c .before in
-    let b2 = b1 .before in
-    let b6 = b2 .before .before .before .before in
-    omega (arith, b6 .pre .1 .below (b2 .loop .l) (b1 .loop-test .taken))
-
-shared-slice-read-s1 : tie.Need-shared-slice-read-s1 Inv-loop μ-loop
-shared-slice-read-s1 c =
+mul-at c =
     let b2 = c .before .before in
     let b3 = b2 .before in
     let b7 = b3 .before .before .before .before in
-    omega (arith, b7 .pre .1 .below (b3 .loop .l) (b2 .loop-test .taken), b3 .loop .inv .3)
+    let B = b7 .pre .1 .below (b3 .loop .l) (b2 .loop-test .taken) in let e = c .band-of .ensures in omega (arith, B, e)
+
+mul-s1 : tie.Need-mul-s1 Inv-loop μ-loop
+mul-s1 c =
+    let b2 = c .before .before in
+    let b3 = b2 .before in
+    let b7 = b3 .before .before .before .before in
+    let B = b7 .pre .1 .below (b3 .loop .l) (b2 .loop-test .taken) in let e = c .band-of .ensures in omega (arith, B, e)
+
+shared-slice-read-s1 : tie.Need-shared-slice-read-s1 Inv-loop μ-loop
+shared-slice-read-s1 c =
+    let b1 = c .before in
+    let b3 = b1 .before .before in
+    let b4 = b3 .before in
+    let b8 = b4 .before .before .before .before in
+    let B = b8 .pre .1 .below (b4 .loop .l) (b3 .loop-test .taken) in let e = b1 .band-of .ensures in omega (arith, B, e, b4 .loop .inv .3)
 
 mul-s1-2 : tie.Need-mul-s1-2 Inv-loop μ-loop
 mul-s1-2 c = search needs
@@ -56,24 +57,27 @@ slice-write-s1 c = search needs
 
 add-s2 : tie.Need-add-s2 Inv-loop μ-loop
 add-s2 c =
-    let b2 = c .before .before in
-    let b3 = b2 .before in
-    let b7 = b3 .before .before .before .before in
-    omega (arith, b7 .pre .1 .below (b3 .loop .l) (b2 .loop-test .taken))
+    let b1 = c .before in
+    let b3 = b1 .before .before in
+    let b4 = b3 .before in
+    let b8 = b4 .before .before .before .before in
+    let B = b8 .pre .1 .below (b4 .loop .l) (b3 .loop-test .taken) in let e = b1 .band-of .ensures in omega (arith, B, e)
 
 mul-s2 : tie.Need-mul-s2 Inv-loop μ-loop
 mul-s2 c =
-    let b2 = c .before .before in
-    let b3 = b2 .before in
-    let b7 = b3 .before .before .before .before in
-    omega (arith, b7 .pre .1 .below (b3 .loop .l) (b2 .loop-test .taken))
+    let b1 = c .before in
+    let b3 = b1 .before .before in
+    let b4 = b3 .before in
+    let b8 = b4 .before .before .before .before in
+    let B = b8 .pre .1 .below (b4 .loop .l) (b3 .loop-test .taken) in let e = b1 .band-of .ensures in omega (arith, B, e)
 
 shared-slice-read-s2 : tie.Need-shared-slice-read-s2 Inv-loop μ-loop
 shared-slice-read-s2 c =
-    let b3 = c .before .before .before in
-    let b4 = b3 .before in
-    let b8 = b4 .before .before .before .before in
-    omega (arith, b8 .pre .1 .below (b4 .loop .l) (b3 .loop-test .taken), b4 .loop .inv .3)
+    let b2 = c .before .before in
+    let b4 = b2 .before .before in
+    let b5 = b4 .before in
+    let b9 = b5 .before .before .before .before in
+    let B = b9 .pre .1 .below (b5 .loop .l) (b4 .loop-test .taken) in let e = b2 .band-of .ensures in omega (arith, B, e, b5 .loop .inv .3)
 
 mul-s2-2 : tie.Need-mul-s2-2 Inv-loop μ-loop
 mul-s2-2 c = search needs
@@ -89,10 +93,11 @@ loop-less c = search needs
 
 loop-again : tie.Need-loop-again Inv-loop μ-loop
 loop-again c =
-    let b3 = c .before .before .before in
-    let b4 = b3 .before in
-    let b8 = b4 .before .before .before .before in
-    (omega (arith, b3 .loop-test .taken), simp length-set (b4 .loop .inv .1), simp length-set (b4 .loop .inv .2), b4 .loop .inv .3, memories-again (b4 .loop .s1) (b4 .loop .s2) (b8 .args .memories .now) (b8 .args .live .now) (b4 .loop .l) (memoryAt (b8 .args .memories .now) (getD (b8 .args .live .now) (b4 .loop .l) 0)) (b4 .loop .inv .1) (b4 .loop .inv .2) (omega (arith, b3 .loop-test .taken, b8 .pre .0)) refl (b4 .loop .inv .4))
+    let b2 = c .before .before in
+    let b4 = b2 .before .before in
+    let b5 = b4 .before in
+    let b9 = b5 .before .before .before .before in
+    (omega (arith, b4 .loop-test .taken), simp length-set (b5 .loop .inv .1), simp length-set (b5 .loop .inv .2), b5 .loop .inv .3, rw (b2 .band-of .ensures) (memories-again (b5 .loop .s1) (b5 .loop .s2) (b9 .args .memories .now) (b9 .args .live .now) (b5 .loop .l) (memoryAt (b9 .args .memories .now) (getD (b9 .args .live .now) (b5 .loop .l) 0)) (b5 .loop .inv .1) (b5 .loop .inv .2) (omega (arith, b4 .loop-test .taken, b9 .pre .0)) refl (b5 .loop .inv .4)))
 
 returns : tie.Need-returns Inv-loop μ-loop
 returns c =
@@ -107,9 +112,9 @@ gather-memories-spec =
     Inv-loop
     μ-loop
     loop-holds
+    element-copy-out-band-of
+    band-of-requires
     mul-at
-    element-copy-out-at
-    mul-at-2
     mul-s1
     shared-slice-read-s1
     mul-s1-2

@@ -1,4 +1,4 @@
-use mathlib.Core.Path.{_≡_, refl}
+use mathlib.Core.Path.{_≡_, refl, _∙_}
 use Prim.Native.Nat.{ℕ, _+_, _-_, _*_, _≤_, _<_}
 use native.Mathlib.Omega.{arith}
 use lib.ListN.{length, getD, length-set}
@@ -23,32 +23,32 @@ loop-holds c =
     let b1 = c .before in
     (omega arith, search needs, b1 .pre .3, row-none (λ q l. getD (b1 .args .lists .now) (64 + getD (b1 .args .live .now) l 0 * 5 + q) nan) _ _)
 
+element-copy-out-band-of : tie.Need-element-copy-out-band-of Inv-loop μ-loop
+element-copy-out-band-of c = search needs
+
+band-of-requires : tie.Need-band-of-requires Inv-loop μ-loop
+band-of-requires c κs = search needs
+
 mul-from : tie.Need-mul-from Inv-loop μ-loop
-mul-from c = search needs
-
-element-copy-out-from : tie.Need-element-copy-out-from Inv-loop μ-loop
-element-copy-out-from c = search needs
-
-mul-from-2 : tie.Need-mul-from-2 Inv-loop μ-loop
-mul-from-2 c =
-    let b1 = c .before in
-    let b2 = b1 .before in
-    let b4 = b2 .before .before in
-    omega (arith, b4 .pre .2 .below (b2 .loop .l) (b1 .loop-test .taken))
+mul-from c =
+    let b2 = c .before .before in
+    let b3 = b2 .before in
+    let b5 = b3 .before .before in
+    let B = b5 .pre .2 .below (b3 .loop .l) (b2 .loop-test .taken) in let e = c .band-of .ensures in omega (arith, B, e)
 
 add-from : tie.Need-add-from Inv-loop μ-loop
 add-from c =
-    let b1 = c .before in
-    let b2 = b1 .before in
-    let b4 = b2 .before .before in
-    omega (arith, b4 .pre .2 .below (b2 .loop .l) (b1 .loop-test .taken))
+    let b2 = c .before .before in
+    let b3 = b2 .before in
+    let b5 = b3 .before .before in
+    let B = b5 .pre .2 .below (b3 .loop .l) (b2 .loop-test .taken) in let e = c .band-of .ensures in omega (arith, B, e)
 
 add-from-2 : tie.Need-add-from-2 Inv-loop μ-loop
 add-from-2 c =
-    let b1 = c .before in
-    let b2 = b1 .before in
-    let b4 = b2 .before .before in
-    omega (arith, b4 .pre .2 .below (b2 .loop .l) (b1 .loop-test .taken), b4 .pre .0)
+    let b2 = c .before .before in
+    let b3 = b2 .before in
+    let b5 = b3 .before .before in
+    let B = b5 .pre .2 .below (b3 .loop .l) (b2 .loop-test .taken) in let e = c .band-of .ensures in omega (arith, B, e, b5 .pre .0)
 
 mul-to : tie.Need-mul-to Inv-loop μ-loop
 mul-to c = search needs
@@ -58,17 +58,17 @@ add-to c = search needs
 
 mul-places : tie.Need-mul-places Inv-loop μ-loop
 mul-places c =
-    let b1 = c .before in
-    let b2 = b1 .before in
-    let b4 = b2 .before .before in
-    omega (arith, b4 .pre .2 .below (b2 .loop .l) (b1 .loop-test .taken), b4 .pre .0)
+    let b2 = c .before .before in
+    let b3 = b2 .before in
+    let b5 = b3 .before .before in
+    let B = b5 .pre .2 .below (b3 .loop .l) (b2 .loop-test .taken) in let e = c .band-of .ensures in omega (arith, B, e, b5 .pre .0)
 
 element-copy-out-places : tie.Need-element-copy-out-places Inv-loop μ-loop
 element-copy-out-places c =
-    let b1 = c .before in
-    let b2 = b1 .before in
-    let b4 = b2 .before .before in
-    omega (arith, b4 .pre .2 .below (b2 .loop .l) (b1 .loop-test .taken), b4 .pre .0)
+    let b2 = c .before .before in
+    let b3 = b2 .before in
+    let b5 = b3 .before .before in
+    let B = b5 .pre .2 .below (b3 .loop .l) (b2 .loop-test .taken) in let e = c .band-of .ensures in omega (arith, B, e, b5 .pre .0)
 
 mul-places-2 : tie.Need-mul-places-2 Inv-loop μ-loop
 mul-places-2 c = search needs
@@ -84,14 +84,15 @@ loop-less c = search needs
 
 loop-again : tie.Need-loop-again Inv-loop μ-loop
 loop-again c =
-    let b2 = c .before .before in
-    let b3 = b2 .before in
-    let b5 = b3 .before .before in
-    let f : ℕ → ℕ → Float = λ q l. getD (b5 .args .lists .now) (64 + getD (b5 .args .live .now) l 0 * 5 + q) nan in (
-        omega (arith, b2 .loop-test .taken),
-        simp length-set (b3 .loop .inv .1),
-        rows-keep f (b3 .loop .places) (b5 .args .q) (b5 .args .n) (b3 .loop .l) _ (omega (arith, b5 .pre .1)) (b3 .loop .inv .2),
-        row-again f (b3 .loop .places) (b5 .args .q) (b3 .loop .l) _ (omega (arith, b2 .loop-test .taken, b5 .pre .0, b5 .pre .1, b3 .loop .inv .1)) refl (b3 .loop .inv .3),
+    let b1 = c .before in
+    let b3 = b1 .before .before in
+    let b4 = b3 .before in
+    let b6 = b4 .before .before in
+    let f : ℕ → ℕ → Float = λ q l. getD (b6 .args .lists .now) (64 + getD (b6 .args .live .now) l 0 * 5 + q) nan in (
+        omega (arith, b3 .loop-test .taken),
+        simp length-set (b4 .loop .inv .1),
+        rows-keep f (b4 .loop .places) (b6 .args .q) (b6 .args .n) (b4 .loop .l) _ (omega (arith, b6 .pre .1)) (b4 .loop .inv .2),
+        row-again f (b4 .loop .places) (b6 .args .q) (b4 .loop .l) _ (omega (arith, b3 .loop-test .taken, b6 .pre .0, b6 .pre .1, b4 .loop .inv .1)) (rw (b1 .band-of .ensures)) (b4 .loop .inv .3),
       )
 
 returns : tie.Need-returns Inv-loop μ-loop
@@ -108,9 +109,9 @@ gather-row-spec =
     Inv-loop
     μ-loop
     loop-holds
+    element-copy-out-band-of
+    band-of-requires
     mul-from
-    element-copy-out-from
-    mul-from-2
     add-from
     add-from-2
     mul-to

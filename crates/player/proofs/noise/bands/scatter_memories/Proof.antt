@@ -23,18 +23,18 @@ unfolding steps
 loop-holds c =
     (omega arith, search needs, refl)
 
+element-copy-out-band-of : tie.Need-element-copy-out-band-of Inv-loop μ-loop
+element-copy-out-band-of c = search needs
+
+band-of-requires : tie.Need-band-of-requires Inv-loop μ-loop
+band-of-requires c κs = search needs
+
 mul-at : tie.Need-mul-at Inv-loop μ-loop
-mul-at c = search needs
-
-element-copy-out-at : tie.Need-element-copy-out-at Inv-loop μ-loop
-element-copy-out-at c = search needs
-
-mul-at-2 : tie.Need-mul-at-2 Inv-loop μ-loop
-mul-at-2 c =
-    let b1 = c .before in
-    let b2 = b1 .before in
-    let b4 = b2 .before .before in
-    omega (arith, b4 .pre .1 .below (b2 .loop .l) (b1 .loop-test .taken))
+mul-at c =
+    let b2 = c .before .before in
+    let b3 = b2 .before in
+    let b5 = b3 .before .before in
+    let B = b5 .pre .1 .below (b3 .loop .l) (b2 .loop-test .taken) in let e = c .band-of .ensures in omega (arith, B, e)
 
 mul-s : tie.Need-mul-s Inv-loop μ-loop
 mul-s c = search needs
@@ -44,17 +44,19 @@ element-copy-out-s c = search needs
 
 mul-s-2 : tie.Need-mul-s-2 Inv-loop μ-loop
 mul-s-2 c =
-    let b2 = c .before .before in
-    let b3 = b2 .before in
-    let b5 = b3 .before .before in
-    omega (arith, b5 .pre .1 .below (b3 .loop .l) (b2 .loop-test .taken), b3 .loop .inv .1)
+    let b1 = c .before in
+    let b3 = b1 .before .before in
+    let b4 = b3 .before in
+    let b6 = b4 .before .before in
+    let B = b6 .pre .1 .below (b4 .loop .l) (b3 .loop-test .taken) in let e = b1 .band-of .ensures in omega (arith, B, e, b4 .loop .inv .1)
 
 slice-write-s : tie.Need-slice-write-s Inv-loop μ-loop
 slice-write-s c =
-    let b2 = c .before .before in
-    let b3 = b2 .before in
-    let b5 = b3 .before .before in
-    omega (arith, b5 .pre .1 .below (b3 .loop .l) (b2 .loop-test .taken), b3 .loop .inv .1)
+    let b1 = c .before in
+    let b3 = b1 .before .before in
+    let b4 = b3 .before in
+    let b6 = b4 .before .before in
+    let B = b6 .pre .1 .below (b4 .loop .l) (b3 .loop-test .taken) in let e = b1 .band-of .ensures in omega (arith, B, e, b4 .loop .inv .1)
 
 mul-s-3 : tie.Need-mul-s-3 Inv-loop μ-loop
 mul-s-3 c = search needs
@@ -64,24 +66,27 @@ element-copy-out-s-2 c = search needs
 
 add-s : tie.Need-add-s Inv-loop μ-loop
 add-s c =
-    let b3 = c .before .before .before in
-    let b4 = b3 .before in
-    let b6 = b4 .before .before in
-    omega (arith, b6 .pre .1 .below (b4 .loop .l) (b3 .loop-test .taken), b4 .loop .inv .1)
+    let b2 = c .before .before in
+    let b4 = b2 .before .before in
+    let b5 = b4 .before in
+    let b7 = b5 .before .before in
+    let B = b7 .pre .1 .below (b5 .loop .l) (b4 .loop-test .taken) in let e = b2 .band-of .ensures in omega (arith, B, e, b5 .loop .inv .1)
 
 mul-s-4 : tie.Need-mul-s-4 Inv-loop μ-loop
 mul-s-4 c =
-    let b3 = c .before .before .before in
-    let b4 = b3 .before in
-    let b6 = b4 .before .before in
-    omega (arith, b6 .pre .1 .below (b4 .loop .l) (b3 .loop-test .taken), b4 .loop .inv .1)
+    let b2 = c .before .before in
+    let b4 = b2 .before .before in
+    let b5 = b4 .before in
+    let b7 = b5 .before .before in
+    let B = b7 .pre .1 .below (b5 .loop .l) (b4 .loop-test .taken) in let e = b2 .band-of .ensures in omega (arith, B, e, b5 .loop .inv .1)
 
 slice-write-s-2 : tie.Need-slice-write-s-2 Inv-loop μ-loop
 slice-write-s-2 c =
-    let b3 = c .before .before .before in
-    let b4 = b3 .before in
-    let b6 = b4 .before .before in
-    simp length-set (omega (arith, b6 .pre .1 .below (b4 .loop .l) (b3 .loop-test .taken), b4 .loop .inv .1))
+    let b2 = c .before .before in
+    let b4 = b2 .before .before in
+    let b5 = b4 .before in
+    let b7 = b5 .before .before in
+    let B = b7 .pre .1 .below (b5 .loop .l) (b4 .loop-test .taken) in let e = b2 .band-of .ensures in simp length-set (omega (arith, B, e, b5 .loop .inv .1))
 
 add-l : tie.Need-add-l Inv-loop μ-loop
 add-l c = search needs
@@ -91,10 +96,11 @@ loop-less c = search needs
 
 loop-again : tie.Need-loop-again Inv-loop μ-loop
 loop-again c =
-    let b3 = c .before .before .before in
-    let b4 = b3 .before in
-    let b6 = b4 .before .before in
-    (omega (arith, b3 .loop-test .taken), simp length-set (b4 .loop .inv .1), steps-again (λ l ms. withMemory ms (getD (b6 .args .live .now) l 0) (stateOfColumns (b6 .args .z1 .now) (b6 .args .z2 .now) l)) _ (b4 .loop .s) (b4 .loop .l) (b4 .loop .inv .2))
+    let b2 = c .before .before in
+    let b4 = b2 .before .before in
+    let b5 = b4 .before in
+    let b7 = b5 .before .before in
+    (omega (arith, b4 .loop-test .taken), simp length-set (b5 .loop .inv .1), rw (b2 .band-of .ensures) (steps-again (λ l ms. withMemory ms (getD (b7 .args .live .now) l 0) (stateOfColumns (b7 .args .z1 .now) (b7 .args .z2 .now) l)) _ (b5 .loop .s) (b5 .loop .l) (b5 .loop .inv .2)))
 
 returns : tie.Need-returns Inv-loop μ-loop
 returns c =
@@ -108,9 +114,9 @@ scatter-memories-spec =
     Inv-loop
     μ-loop
     loop-holds
+    element-copy-out-band-of
+    band-of-requires
     mul-at
-    element-copy-out-at
-    mul-at-2
     mul-s
     element-copy-out-s
     mul-s-2

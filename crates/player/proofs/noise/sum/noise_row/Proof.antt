@@ -1,5 +1,5 @@
 -- `noise_row` meets its contract.
-use mathlib.Core.Path.{_≡_}
+use mathlib.Core.Path.{_≡_, _∙_}
 use Prim.Native.Nat.{ℕ, _-_, _≤_, _<_}
 use native.Mathlib.Omega.{arith}
 use lib.ListN.{length, getD, length-set}
@@ -17,13 +17,6 @@ Inv-loop noise live s q n places₀ l₀ places l = (l ≤ n) × (length places 
 abbrev μ-loop : tie.MeasureT-loop
 μ-loop noise live s q n places₀ l₀ places l = n - l
 
--- a live band is one of 16
-band : (c : tie.In-loop Inv-loop μ-loop) → let b1 = c .before in let b2 = b1 .before .before in getD (b2 .args .live .now) (b1 .loop .l) 0 < 16
-band c =
-    let b1 = c .before in
-    let b2 = b1 .before .before in
-    b2 .pre .3 .below (b1 .loop .l) (c .loop-test .taken)
-
 loop-holds : tie.Need-loop-holds Inv-loop μ-loop
 loop-holds c =
     let b1 = c .before in
@@ -32,35 +25,40 @@ loop-holds c =
 mul-at : tie.Need-mul-at Inv-loop μ-loop
 mul-at c = search needs
 
-mul-at-2 : tie.Need-mul-at-2 Inv-loop μ-loop
-mul-at-2 c = search needs
+element-copy-out-band-of : tie.Need-element-copy-out-band-of Inv-loop μ-loop
+element-copy-out-band-of c = search needs
 
-element-copy-out-at : tie.Need-element-copy-out-at Inv-loop μ-loop
-element-copy-out-at c = search needs
+band-of-requires : tie.Need-band-of-requires Inv-loop μ-loop
+band-of-requires c κs = search needs
 
 add-at : tie.Need-add-at Inv-loop μ-loop
 add-at c =
-    let b1 = c .before in
-    let b4 = b1 .before .before .before in
-    omega (arith, band b1, b4 .pre .0 .low, b4 .pre .0 .high, b4 .pre .1)
+    let b2 = c .before .before in
+    let b3 = b2 .before in
+    let b5 = b3 .before .before in
+    let B = b5 .pre .3 .below (b3 .loop .l) (b2 .loop-test .taken) in let e = c .band-of .ensures in omega (arith, B, e, b5 .pre .1)
 
 mul-lo : tie.Need-mul-lo Inv-loop μ-loop
 mul-lo c = search needs
 
 add-lo : tie.Need-add-lo Inv-loop μ-loop
 add-lo c =
-    let b1 = c .before .before in
-    let b4 = b1 .before .before .before in
-    omega (arith, band b1, b4 .pre .0 .low, b4 .pre .0 .high, b4 .pre .1)
+    let b1 = c .before in
+    let b3 = b1 .before .before in
+    let b4 = b3 .before in
+    let b6 = b4 .before .before in
+    let B = b6 .pre .3 .below (b4 .loop .l) (b3 .loop-test .taken) in let e = b1 .band-of .ensures in omega (arith, B, e, b6 .pre .0 .low, b6 .pre .0 .high, b6 .pre .1)
 
 mul-hi : tie.Need-mul-hi Inv-loop μ-loop
 mul-hi c = search needs
 
 add-hi : tie.Need-add-hi Inv-loop μ-loop
 add-hi c =
-    let b1 = c .before .before .before in
-    let b4 = b1 .before .before .before in
-    omega (arith, band b1, b4 .pre .0 .low, b4 .pre .0 .high, b4 .pre .1)
+    let b2 = c .before .before in
+    let b4 = b2 .before .before in
+    let b5 = b4 .before in
+    let b7 = b5 .before .before in
+    let B = b7 .pre .3 .below (b5 .loop .l) (b4 .loop-test .taken) in let e = b2 .band-of .ensures in omega (arith, B, e, b7 .pre .0 .low, b7 .pre .0 .high, b7 .pre .1)
 
 mul-to : tie.Need-mul-to Inv-loop μ-loop
 mul-to c = search needs
@@ -70,27 +68,35 @@ add-to c = search needs
 
 mul-lerp : tie.Need-mul-lerp Inv-loop μ-loop
 mul-lerp c =
-    let b1 = c .before .before .before in
-    let b4 = b1 .before .before .before in
-    omega (arith, band b1, b4 .pre .0 .low, b4 .pre .0 .high, b4 .pre .1)
+    let b2 = c .before .before in
+    let b4 = b2 .before .before in
+    let b5 = b4 .before in
+    let b7 = b5 .before .before in
+    let B = b7 .pre .3 .below (b5 .loop .l) (b4 .loop-test .taken) in let e = b2 .band-of .ensures in omega (arith, B, e, b7 .pre .0 .low, b7 .pre .0 .high, b7 .pre .1)
 
 element-copy-out-lerp : tie.Need-element-copy-out-lerp Inv-loop μ-loop
 element-copy-out-lerp c =
-    let b1 = c .before .before .before in
-    let b4 = b1 .before .before .before in
-    omega (arith, band b1, b4 .pre .0 .low, b4 .pre .0 .high, b4 .pre .1)
+    let b2 = c .before .before in
+    let b4 = b2 .before .before in
+    let b5 = b4 .before in
+    let b7 = b5 .before .before in
+    let B = b7 .pre .3 .below (b5 .loop .l) (b4 .loop-test .taken) in let e = b2 .band-of .ensures in omega (arith, B, e, b7 .pre .0 .low, b7 .pre .0 .high, b7 .pre .1)
 
 mul-lerp-2 : tie.Need-mul-lerp-2 Inv-loop μ-loop
 mul-lerp-2 c =
-    let b1 = c .before .before .before .before in
-    let b4 = b1 .before .before .before in
-    omega (arith, band b1, b4 .pre .0 .low, b4 .pre .0 .high, b4 .pre .1)
+    let b3 = c .before .before .before in
+    let b5 = b3 .before .before in
+    let b6 = b5 .before in
+    let b8 = b6 .before .before in
+    let B = b8 .pre .3 .below (b6 .loop .l) (b5 .loop-test .taken) in let e = b3 .band-of .ensures in omega (arith, B, e, b8 .pre .0 .low, b8 .pre .0 .high, b8 .pre .1)
 
 element-copy-out-lerp-2 : tie.Need-element-copy-out-lerp-2 Inv-loop μ-loop
 element-copy-out-lerp-2 c =
-    let b1 = c .before .before .before .before in
-    let b4 = b1 .before .before .before in
-    omega (arith, band b1, b4 .pre .0 .low, b4 .pre .0 .high, b4 .pre .1)
+    let b3 = c .before .before .before in
+    let b5 = b3 .before .before in
+    let b6 = b5 .before in
+    let b8 = b6 .before .before in
+    let B = b8 .pre .3 .below (b6 .loop .l) (b5 .loop-test .taken) in let e = b3 .band-of .ensures in omega (arith, B, e, b8 .pre .0 .low, b8 .pre .0 .high, b8 .pre .1)
 
 lerp-requires : tie.Need-lerp-requires Inv-loop μ-loop
 lerp-requires c κs = search needs
@@ -109,17 +115,16 @@ loop-less c = search needs
 
 loop-again : tie.Need-loop-again Inv-loop μ-loop
 loop-again c =
-    let b6 = c .before .before .before .before .before .before in
-    let b7 = b6 .before in
-    let b9 = b7 .before .before in
-    let a = b9 .args in
-    let I = b7 .loop .inv in
-    let f : ℕ → ℕ → Float = λ q l. noiseRow (a .noise .now) (a .s) q (getD (a .live .now) l 0) in (
-      omega (arith, b6 .loop-test .taken),
-      simp length-set (I .1),
-      rows-keep f (b7 .loop .places) (a .q) (a .n) (b7 .loop .l) _ (omega (arith, b9 .pre .2)) (I .2),
-      row-again f (b7 .loop .places) (a .q) (b7 .loop .l) _ (omega (arith, b6 .loop-test .taken, b9 .pre .2, b9 .pre .1, I .1)) (c .lerp .ensures) (I .3),
-    )
+    let b5 = c .before .before .before .before .before in
+    let b7 = b5 .before .before in
+    let b8 = b7 .before in
+    let b10 = b8 .before .before in
+    let f : ℕ → ℕ → Float = λ q l. noiseRow (b10 .args .noise .now) (b10 .args .s) q (getD (b10 .args .live .now) l 0) in (
+        omega (arith, b7 .loop-test .taken),
+        simp length-set (b8 .loop .inv .1),
+        rows-keep f (b8 .loop .places) (b10 .args .q) (b10 .args .n) (b8 .loop .l) _ (omega (arith, b10 .pre .2)) (b8 .loop .inv .2),
+        row-again f (b8 .loop .places) (b10 .args .q) (b8 .loop .l) _ (omega (arith, b7 .loop-test .taken, b10 .pre .2, b10 .pre .1, b8 .loop .inv .1)) (c .lerp .ensures ∙ rw (b5 .band-of .ensures)) (b8 .loop .inv .3),
+      )
 
 returns : tie.Need-returns Inv-loop μ-loop
 returns c =
@@ -137,8 +142,8 @@ noise-row-spec =
     μ-loop
     loop-holds
     mul-at
-    mul-at-2
-    element-copy-out-at
+    element-copy-out-band-of
+    band-of-requires
     add-at
     mul-lo
     add-lo
