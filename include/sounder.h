@@ -1,8 +1,8 @@
 /* The crossing sounder for C: images of coefficient tables, read and rewritten, and voices, made and played.
  *
- * Every function answers for every argument; none allocates, and none writes but to the target or
- * the output that it is lent, or sounder_play_lent to the running state. Voices go in and out by value, or are played where they lie.
- * A slice is a pointer and a length in elements. A pointer may not be null, also where its length is 0. */
+ * Every function answers for every argument; none allocates, and none writes but to the target or the output that it is lent, or, of those
+ * that are handed a pointer to a voice, to that voice. A slice is a pointer and a length in elements. A pointer may not be null, also where
+ * its length is 0. Nothing that a function writes to may overlap another of its arguments. */
 #ifndef SOUNDER_H
 #define SOUNDER_H
 
@@ -67,26 +67,39 @@ struct sounder_state {
     uint32_t noise;
 };
 
-/* A voice: everything that a tone is made of. Places that are not in use are 0 in a fresh voice and stay as given. */
+/* A voice: everything that a tone is made of. Places that are not in use are 0 in a fresh voice. A play leaves them as given; a reset
+ * or a reseed writes all of the state. */
 struct sounder_voice {
-    uint32_t blend;   /* 0: a single voice of the channel below; else a blend */
-    uint32_t channel; /* a single voice's channel of the table */
-    size_t count;     /* entries */
-    size_t k;         /* channels that are blended; 1 of a single voice */
-    size_t m;         /* phases */
-    size_t j;         /* bands */
-    size_t live_count; /* live bands, and which they are */
-    size_t live[16];
+    uint32_t blend;    /* 0: a single voice of the channel below; else a blend */
+    uint32_t channel;  /* a single voice's channel of the table */
+    size_t count;      /* entries */
+    size_t k;          /* channels that are blended; 1 of a single voice */
+    size_t m;          /* phases */
+    size_t j;          /* bands */
+    size_t live_count; /* live bands, and below which they are */
     float sample_rate;
+    size_t live[16];
     float f0_hz[16]; /* pitches, ascending */
     float stretch[16];
     float mainlobe_gain[16];
     float noise_gain[16];
-    float partials[2048]; /* entry * 128 + channel * 32 + partial */
-    float noise[1024];    /* entry * 64 + channel * 16 + band */
     struct sounder_biquad_coeffs bands[16];
     float compensation[16];
+    float partials[2048]; /* entry * 128 + channel * 32 + partial */
+    float noise[1024];    /* entry * 64 + channel * 16 + band */
     struct sounder_state state;
+};
+
+/* A block's numbers: how long and how wide the output is, and how many channels each input has, 0 for unconnected (the frequency is then
+ * 220, gain 0 is 1, the others 0). */
+struct sounder_shape {
+    size_t samples;
+    size_t channels;
+    size_t freq;
+    size_t g0;
+    size_t g1;
+    size_t g2;
+    size_t g3;
 };
 
 /* The voice is all zero where the making is refused. */
@@ -99,24 +112,6 @@ struct sounder_made_answer {
 struct sounder_played_answer {
     uint32_t number;
     struct sounder_voice voice;
-};
-
-/* A voice's numbers: the first fields of sounder_voice and its sample rate. */
-struct sounder_setting {
-    uint32_t blend;
-    uint32_t channel;
-    size_t count;
-    size_t k;
-    size_t m;
-    size_t j;
-    size_t live_count;
-    float sample_rate;
-};
-
-/* The answer of sounder_play_lent: 0 or the number of the question that was answered no, and the noise number after the call. */
-struct sounder_lent_answer {
-    uint32_t number;
-    uint32_t noise;
 };
 
 /* The power that white noise has after a band, and how many times the band was rung for it. */
@@ -143,45 +138,17 @@ struct sounder_answer sounder_to_bytes(const uint8_t *image, size_t image_len, u
 struct sounder_made_answer sounder_make(uint32_t kind, uint32_t channel, const uint8_t *image, size_t image_len, float sample_rate,
                                         const float *centres, size_t centres_len);
 
-/* Plays a block: channel after channel in one slice of samples * channels floats. An input is a number of channels, 0 for unconnected (the frequency
- * is then 220, gain 0 is 1, the others 0), and its slice; output channel n reads input channel n modulo the input's channels. */
-struct sounder_played_answer sounder_play(struct sounder_voice voice, size_t samples, size_t freq_channels, const float *freq, size_t freq_len,
-                                          size_t g0_channels, const float *g0, size_t g0_len, size_t g1_channels, const float *g1, size_t g1_len,
-                                          size_t g2_channels, const float *g2, size_t g2_len, size_t g3_channels, const float *g3, size_t g3_len,
-                                          size_t channels, float *out, size_t out_len);
+/* Plays a block of the voice itself, which moves on; a refusal, whose number is answered, leaves it as it is. The output holds channel after
+ * channel, shape.samples * shape.channels floats; an input its channels in the same way, and output channel n reads input channel n modulo
+ * the input's channels. */
+uint32_t sounder_play_in(struct sounder_voice *voice, struct sounder_shape shape, const float *freq, size_t freq_len, const float *g0,
+                         size_t g0_len, const float *g1, size_t g1_len, const float *g2, size_t g2_len, const float *g3, size_t g3_len, float *out,
+                         size_t out_len);
 
-/* The same with the voice's lists where they lie: nothing is copied, which tells in short blocks. Bands are five floats each, memories two.
- * Only phases, memories and the output are written; none of the three may overlap another argument. sounder_play_in hands it a voice. */
-struct sounder_lent_answer sounder_play_lent(struct sounder_setting set, const size_t live[16], const float f0_hz[16], const float stretch[16],
-                                             const float mainlobe_gain[16], const float noise_gain[16], const float partials[2048],
-                                             const float noise[1024], const float bands[80], const float compensation[16], float phases[32],
-                                             float memories[32], uint32_t noise_number, size_t samples, size_t freq_channels, const float *freq,
-                                             size_t freq_len, size_t g0_channels, const float *g0, size_t g0_len, size_t g1_channels,
-                                             const float *g1, size_t g1_len, size_t g2_channels, const float *g2, size_t g2_len,
-                                             size_t g3_channels, const float *g3, size_t g3_len, size_t channels, float *out, size_t out_len);
-
-/* Plays a block of the voice itself, which moves on; a refusal, whose number is answered, leaves it as it is. */
-static inline uint32_t sounder_play_in(struct sounder_voice *v, size_t samples, size_t freq_channels, const float *freq, size_t freq_len,
-                                       size_t g0_channels, const float *g0, size_t g0_len, size_t g1_channels, const float *g1, size_t g1_len,
-                                       size_t g2_channels, const float *g2, size_t g2_len, size_t g3_channels, const float *g3, size_t g3_len,
-                                       size_t channels, float *out, size_t out_len)
-{
-    struct sounder_setting set;
-    struct sounder_lent_answer a;
-    set.blend = v->blend;
-    set.channel = v->channel;
-    set.count = v->count;
-    set.k = v->k;
-    set.m = v->m;
-    set.j = v->j;
-    set.live_count = v->live_count;
-    set.sample_rate = v->sample_rate;
-    a = sounder_play_lent(set, v->live, v->f0_hz, v->stretch, v->mainlobe_gain, v->noise_gain, v->partials, v->noise, (const float *)v->bands, v->compensation,
-                          v->state.phases, (float *)v->state.memories, v->state.noise, samples, freq_channels, freq, freq_len, g0_channels, g0, g0_len,
-                          g1_channels, g1, g1_len, g2_channels, g2, g2_len, g3_channels, g3, g3_len, channels, out, out_len);
-    v->state.noise = a.noise;
-    return a.number;
-}
+/* The same of a voice by value: the answer has the voice to play on with. It copies some 13 KB in and out, which tells in short blocks. */
+struct sounder_played_answer sounder_play(struct sounder_voice voice, struct sounder_shape shape, const float *freq, size_t freq_len,
+                                          const float *g0, size_t g0_len, const float *g1, size_t g1_len, const float *g2, size_t g2_len,
+                                          const float *g3, size_t g3_len, float *out, size_t out_len);
 
 /* Phases and memories 0, and the default seed. */
 struct sounder_played_answer sounder_reset(struct sounder_voice voice);

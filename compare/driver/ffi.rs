@@ -65,7 +65,7 @@ mod voices {
         pub noise: u32,
     }
 
-    // No padding stands between its fields.
+    // `gap` and `rest` are what C leaves between the fields and after them: they say nothing.
     #[repr(C)]
     #[derive(Clone, Copy)]
     pub struct Voice {
@@ -76,20 +76,32 @@ mod voices {
         pub m: usize,
         pub j: usize,
         pub live_count: usize,
-        pub live: [usize; 16],
         pub sample_rate: f32,
+        pub gap: u32,
+        pub live: [usize; 16],
         pub f0_hz: [f32; 16],
         pub stretch: [f32; 16],
         pub mainlobe_gain: [f32; 16],
         pub noise_gain: [f32; 16],
-        pub partials: [f32; 2048],
-        pub noise: [f32; 1024],
         pub bands: [[f32; 5]; 16],
         pub compensation: [f32; 16],
+        pub partials: [f32; 2048],
+        pub noise: [f32; 1024],
         pub state: State,
+        pub rest: u32,
     }
 
-    const _: () = assert!(size_of::<Voice>() == 13368);
+    pub const SIZE: usize = 13376;
+    const _: () = assert!(size_of::<Voice>() == SIZE);
+
+    #[repr(C)]
+    #[derive(Clone, Copy)]
+    pub struct Shape {
+        samples: usize,
+        channels: usize,
+        freq: usize,
+        g: [usize; 4],
+    }
 
     #[repr(C)]
     #[derive(Clone, Copy)]
@@ -103,26 +115,6 @@ mod voices {
     pub struct PlayedAnswer {
         pub number: u32,
         pub voice: Voice,
-    }
-
-    #[repr(C)]
-    #[derive(Clone, Copy)]
-    pub struct Setting {
-        blend: u32,
-        channel: u32,
-        count: usize,
-        k: usize,
-        m: usize,
-        j: usize,
-        live_count: usize,
-        sample_rate: f32,
-    }
-
-    #[repr(C)]
-    #[derive(Clone, Copy)]
-    pub struct LentAnswer {
-        pub number: u32,
-        pub noise: u32,
     }
 
     #[repr(C)]
@@ -143,61 +135,37 @@ mod voices {
             #[rustfmt::skip]
             pub fn sounder_play(
                 voice: Voice,
-                samples: usize,
-                freq_channels: usize,
+                shape: Shape,
                 freq: *const f32,
                 freq_len: usize,
-                g0_channels: usize,
                 g0: *const f32,
                 g0_len: usize,
-                g1_channels: usize,
                 g1: *const f32,
                 g1_len: usize,
-                g2_channels: usize,
                 g2: *const f32,
                 g2_len: usize,
-                g3_channels: usize,
                 g3: *const f32,
                 g3_len: usize,
-                channels: usize,
                 out: *mut f32,
                 out_len: usize,
             ) -> PlayedAnswer;
             #[rustfmt::skip]
-            pub fn sounder_play_lent(
-                set: Setting,
-                live: *const usize,
-                f0_hz: *const f32,
-                stretch: *const f32,
-                mainlobe_gain: *const f32,
-                noise_gain: *const f32,
-                partials: *const f32,
-                noise: *const f32,
-                bands: *const f32,
-                compensation: *const f32,
-                phases: *mut f32,
-                memories: *mut f32,
-                noise_number: u32,
-                samples: usize,
-                freq_channels: usize,
+            pub fn sounder_play_in(
+                voice: *mut Voice,
+                shape: Shape,
                 freq: *const f32,
                 freq_len: usize,
-                g0_channels: usize,
                 g0: *const f32,
                 g0_len: usize,
-                g1_channels: usize,
                 g1: *const f32,
                 g1_len: usize,
-                g2_channels: usize,
                 g2: *const f32,
                 g2_len: usize,
-                g3_channels: usize,
                 g3: *const f32,
                 g3_len: usize,
-                channels: usize,
                 out: *mut f32,
                 out_len: usize,
-            ) -> LentAnswer;
+            ) -> u32;
             pub fn sounder_reset(voice: Voice) -> PlayedAnswer;
             pub fn sounder_reseed(voice: Voice, seed: u32) -> PlayedAnswer;
             pub fn sounder_noise_power_gain(freq: f32, q: f32, rate: f32, coeffs: Coeffs) -> NoisePower;
@@ -208,13 +176,17 @@ mod voices {
         unsafe { c::sounder_make(kind, channel, image.as_ptr(), image.len(), rate, centres.as_ptr(), centres.len()) }
     }
 
+    fn shape(samples: usize, freq: (usize, &[f32]), g: &[(usize, &[f32]); 4], channels: usize) -> Shape {
+        Shape { samples, channels, freq: freq.0, g: g.map(|x| x.0) }
+    }
+
     // An input is its channels (0: unconnected) and its slice.
     #[rustfmt::skip]
     pub fn play(v: &Voice, samples: usize, freq: (usize, &[f32]), g: [(usize, &[f32]); 4], channels: usize, out: &mut [f32]) -> PlayedAnswer {
         unsafe {
             c::sounder_play(
-                *v, samples, freq.0, freq.1.as_ptr(), freq.1.len(), g[0].0, g[0].1.as_ptr(), g[0].1.len(), g[1].0, g[1].1.as_ptr(), g[1].1.len(),
-                g[2].0, g[2].1.as_ptr(), g[2].1.len(), g[3].0, g[3].1.as_ptr(), g[3].1.len(), channels, out.as_mut_ptr(), out.len(),
+                *v, shape(samples, freq, &g, channels), freq.1.as_ptr(), freq.1.len(), g[0].1.as_ptr(), g[0].1.len(), g[1].1.as_ptr(), g[1].1.len(),
+                g[2].1.as_ptr(), g[2].1.len(), g[3].1.as_ptr(), g[3].1.len(), out.as_mut_ptr(), out.len(),
             )
         }
     }
@@ -222,17 +194,12 @@ mod voices {
     // The same of the voice where it lies: it moves on, and the number is answered.
     #[rustfmt::skip]
     pub fn play_in(v: &mut Voice, samples: usize, freq: (usize, &[f32]), g: [(usize, &[f32]); 4], channels: usize, out: &mut [f32]) -> u32 {
-        let set = Setting { blend: v.blend, channel: v.channel, count: v.count, k: v.k, m: v.m, j: v.j, live_count: v.live_count, sample_rate: v.sample_rate };
-        let a = unsafe {
-            c::sounder_play_lent(
-                set, v.live.as_ptr(), v.f0_hz.as_ptr(), v.stretch.as_ptr(), v.mainlobe_gain.as_ptr(), v.noise_gain.as_ptr(), v.partials.as_ptr(),
-                v.noise.as_ptr(), v.bands.as_ptr().cast(), v.compensation.as_ptr(), v.state.phases.as_mut_ptr(), v.state.memories.as_mut_ptr().cast(),
-                v.state.noise, samples, freq.0, freq.1.as_ptr(), freq.1.len(), g[0].0, g[0].1.as_ptr(), g[0].1.len(), g[1].0, g[1].1.as_ptr(), g[1].1.len(),
-                g[2].0, g[2].1.as_ptr(), g[2].1.len(), g[3].0, g[3].1.as_ptr(), g[3].1.len(), channels, out.as_mut_ptr(), out.len(),
+        unsafe {
+            c::sounder_play_in(
+                v, shape(samples, freq, &g, channels), freq.1.as_ptr(), freq.1.len(), g[0].1.as_ptr(), g[0].1.len(), g[1].1.as_ptr(), g[1].1.len(),
+                g[2].1.as_ptr(), g[2].1.len(), g[3].1.as_ptr(), g[3].1.len(), out.as_mut_ptr(), out.len(),
             )
-        };
-        v.state.noise = a.noise;
-        a.number
+        }
     }
 
     pub fn reset(v: &Voice) -> PlayedAnswer {

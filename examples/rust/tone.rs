@@ -38,17 +38,30 @@ struct Voice {
     m: usize,
     j: usize,
     live_count: usize,
-    live: [usize; 16],
     sample_rate: f32,
+    live: [usize; 16],
     f0_hz: [f32; 16],
     stretch: [f32; 16],
     mainlobe_gain: [f32; 16],
     noise_gain: [f32; 16],
-    partials: [f32; 2048],
-    noise: [f32; 1024],
     bands: [[f32; 5]; 16],
     compensation: [f32; 16],
+    partials: [f32; 2048],
+    noise: [f32; 1024],
     state: State,
+}
+
+// How long and how wide a block is, and how many channels each input has; 0: unconnected.
+#[repr(C)]
+#[derive(Clone, Copy)]
+struct Shape {
+    samples: usize,
+    channels: usize,
+    freq: usize,
+    g0: usize,
+    g1: usize,
+    g2: usize,
+    g3: usize,
 }
 
 #[repr(C)]
@@ -63,62 +76,20 @@ struct PlayedAnswer {
     voice: Voice,
 }
 
-// A voice's numbers; sounder_play_lent takes its lists beside them, where they lie.
-#[repr(C)]
-struct Setting {
-    blend: u32,
-    channel: u32,
-    count: usize,
-    k: usize,
-    m: usize,
-    j: usize,
-    live_count: usize,
-    sample_rate: f32,
-}
-
-#[repr(C)]
-struct LentAnswer {
-    number: u32,
-    noise: u32,
-}
-
 unsafe extern "C" {
     fn sounder_from_bytes(image: *const u8, len: usize) -> Answer;
     fn sounder_desk(kind: u32, channel: u32, image: *const u8, len: usize) -> DeskAnswer;
     fn sounder_make(kind: u32, channel: u32, image: *const u8, len: usize, rate: f32, centres: *const f32, centres_len: usize) -> MadeAnswer;
     #[rustfmt::skip]
     fn sounder_play(
-        voice: Voice, samples: usize, freq_channels: usize, freq: *const f32, freq_len: usize,
-        g0_channels: usize, g0: *const f32, g0_len: usize, g1_channels: usize, g1: *const f32, g1_len: usize,
-        g2_channels: usize, g2: *const f32, g2_len: usize, g3_channels: usize, g3: *const f32, g3_len: usize,
-        channels: usize, out: *mut f32, out_len: usize,
+        voice: Voice, shape: Shape, freq: *const f32, freq_len: usize, g0: *const f32, g0_len: usize, g1: *const f32, g1_len: usize,
+        g2: *const f32, g2_len: usize, g3: *const f32, g3_len: usize, out: *mut f32, out_len: usize,
     ) -> PlayedAnswer;
     #[rustfmt::skip]
-    fn sounder_play_lent(
-        set: Setting, live: *const usize, f0_hz: *const f32, stretch: *const f32, mainlobe_gain: *const f32, noise_gain: *const f32,
-        partials: *const f32, noise: *const f32, bands: *const f32, compensation: *const f32, phases: *mut f32, memories: *mut f32, noise_number: u32,
-        samples: usize, freq_channels: usize, freq: *const f32, freq_len: usize,
-        g0_channels: usize, g0: *const f32, g0_len: usize, g1_channels: usize, g1: *const f32, g1_len: usize,
-        g2_channels: usize, g2: *const f32, g2_len: usize, g3_channels: usize, g3: *const f32, g3_len: usize,
-        channels: usize, out: *mut f32, out_len: usize,
-    ) -> LentAnswer;
-}
-
-// A block of one channel of the voice where it lies, which moves on: the way of a host that plays many short blocks.
-fn play_in(v: &mut Voice, freq: &[f32], out: &mut [f32]) -> u32 {
-    let set = Setting { blend: v.blend, channel: v.channel, count: v.count, k: v.k, m: v.m, j: v.j, live_count: v.live_count, sample_rate: v.sample_rate };
-    #[rustfmt::skip]
-    let a = unsafe {
-        sounder_play_lent(
-            set, v.live.as_ptr(), v.f0_hz.as_ptr(), v.stretch.as_ptr(), v.mainlobe_gain.as_ptr(), v.noise_gain.as_ptr(), v.partials.as_ptr(),
-            v.noise.as_ptr(), v.bands.as_ptr().cast(), v.compensation.as_ptr(), v.state.phases.as_mut_ptr(), v.state.memories.as_mut_ptr().cast(),
-            v.state.noise, out.len(), 1, freq.as_ptr(), freq.len(),
-            NONE.0, NONE.1, NONE.2, NONE.0, NONE.1, NONE.2, NONE.0, NONE.1, NONE.2, NONE.0, NONE.1, NONE.2,
-            1, out.as_mut_ptr(), out.len(),
-        )
-    };
-    v.state.noise = a.noise;
-    a.number
+    fn sounder_play_in(
+        voice: *mut Voice, shape: Shape, freq: *const f32, freq_len: usize, g0: *const f32, g0_len: usize, g1: *const f32, g1_len: usize,
+        g2: *const f32, g2_len: usize, g3: *const f32, g3_len: usize, out: *mut f32, out_len: usize,
+    ) -> u32;
 }
 
 // A table with one entry of pitch 880: one channel, three partials and a noise band.
@@ -141,8 +112,8 @@ fn image() -> Vec<u8> {
     b
 }
 
-// A slice that is not connected: its pointer may not be null.
-const NONE: (usize, *const f32, usize) = (0, [].as_ptr(), 0);
+// The slice of an input that is not connected: its pointer may not be null.
+const NONE: (*const f32, usize) = ([].as_ptr(), 0);
 
 fn main() {
     let image = image();
@@ -162,22 +133,26 @@ fn main() {
 
     // 128 samples of one channel at 880 Hz; the gains are not connected
     let freq = [880f32; 128];
+    let shape = Shape { samples: 128, channels: 1, freq: 1, g0: 0, g1: 0, g2: 0, g3: 0 };
     let mut out = [0f32; 128];
     #[rustfmt::skip]
     let played = unsafe {
         sounder_play(
-            made.voice, 128, 1, freq.as_ptr(), freq.len(),
-            NONE.0, NONE.1, NONE.2, NONE.0, NONE.1, NONE.2, NONE.0, NONE.1, NONE.2, NONE.0, NONE.1, NONE.2,
-            1, out.as_mut_ptr(), out.len(),
+            made.voice, shape, freq.as_ptr(), freq.len(), NONE.0, NONE.1, NONE.0, NONE.1, NONE.0, NONE.1, NONE.0, NONE.1, out.as_mut_ptr(), out.len(),
         )
     };
     println!("played: {}, {:?}", played.number, &out[..6]);
     assert!(played.number == 0 && out.iter().all(|y| y.is_finite()) && out[1] != 0.0);
     assert!(played.voice.state.phases[0] > 0.0 && played.voice.state.noise != made.voice.state.noise);
 
-    // the same block of a voice where it lies, with nothing copied
+    // the same block of the voice where it lies, which moves on: the way of a host that plays many short blocks
     let (mut own, mut heard) = (made.voice, [0f32; 128]);
-    let number = play_in(&mut own, &freq, &mut heard);
+    #[rustfmt::skip]
+    let number = unsafe {
+        sounder_play_in(
+            &mut own, shape, freq.as_ptr(), freq.len(), NONE.0, NONE.1, NONE.0, NONE.1, NONE.0, NONE.1, NONE.0, NONE.1, heard.as_mut_ptr(), heard.len(),
+        )
+    };
     println!("played in place: {number}, {:?}", &heard[..6]);
     assert!(number == 0 && heard == out && own.state.noise == played.voice.state.noise && own.state.phases == played.voice.state.phases);
 }

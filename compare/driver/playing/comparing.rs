@@ -26,12 +26,15 @@ pub fn numbers<T: PartialEq + std::fmt::Debug>(what: &str, ours: T, theirs: T) -
     if ours == theirs { Ok(()) } else { Err(format!("{what}: ours {ours:?}, the original's {theirs:?}")) }
 }
 
-pub fn bytes(v: &Voice) -> &[u8; 13368] {
-    // a Voice has no padding
-    unsafe { &*(v as *const Voice as *const [u8; 13368]) }
+// The bytes of a voice; what C leaves between its fields counts as 0.
+pub fn bytes(v: &Voice) -> [u8; ffi::SIZE] {
+    let mut v = *v;
+    (v.gap, v.rest) = (0, 0);
+    unsafe { std::mem::transmute(v) }
 }
 
-pub const STATE: usize = 13368 - 260;
+// where the running state stands in them
+pub const STATE: usize = std::mem::offset_of!(Voice, state);
 
 pub fn padded(l: impl Iterator<Item = f32>, n: usize) -> Vec<f32> {
     let mut v: Vec<f32> = l.collect();

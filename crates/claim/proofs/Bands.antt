@@ -4,64 +4,82 @@ use mathlib.Core.Logic.{⊎-elim}
 use mathlib.Core.List.{List, [], _∷_, _++_, append-assoc, append-nil}
 use mathlib.Core.Bool.{Bool, true, false, _||_}
 use Prim.Native.Nat.{ℕ, zero, suc, _+_, _≤_, _<_}
-use native.Mathlib.Nat.{eq-or-lt-of-le, add-zero, add-suc, suc-add}
+use native.Mathlib.Nat.{eq-or-lt-of-le, add-zero, zero-add}
 use native.Mathlib.Numerals.{add-one}
 use native.Mathlib.Omega.{arith}
-use lib.ListN.{length, getD, take, set, length-append}
-use lib.Seq.{getD-append-seam}
+use lib.ListN.{length, getD, length-append}
+use lib.Seq.{ext-getD, getD-append-seam}
 use lib.Dec.{eqb}
 use lib.Ieee.{Float}
 use borrow.Author.Tests.{eq-eqb, ne-eqb}
 use Rattle.wire.specs.Parse.{pick}
 use Rattle.table.specs.declared.desk.Kind.{Kind}
 use Rattle.table.specs.Table.{PitchEntry}
-use Rattle.voice.specs.Lists.{mapTo, steps}
-use Rattle.filters.specs.Biquad.{tickOf}
-use Rattle.voice.specs.Voice.{noCoeffs, noState}
+use Rattle.voice.specs.Lists.{upTo, steps}
+use Rattle.voice.specs.Voice.{bandAt, memoryAt, withMemory}
+use Rattle.filters.specs.Biquad.{cleared, tickOf}
+use Rattle.filters.specs.Band.{zeroCoeffs}
 use Rattle.making.specs.Making.{isLive, liveBands}
 use Rattle.filters.specs.declared.biquad.BiquadCoeffs.{BiquadCoeffs}
 use Rattle.filters.specs.declared.biquad.BiquadState.{BiquadState}
+use Rattle.voice.proofs.Loops.{length-upTo, upTo-at}
+use Rattle.voice.proofs.MemoryLaws.{length-with, memory-written, memory-kept}
 use Rattle.claim.specs.Machine.{isIn, tick}
-use Rattle.claim.proofs.Folds.{mapTo-next, mapTo-stays}
 
--- the memories after live band number l has ticked, and band i's memory after it was its turn
-abbrev liveTick : List ℕ → List BiquadCoeffs → Float → ℕ → List BiquadState → List BiquadState
-liveTick live bands x l ms = set ms (getD live l 0) (tickOf (getD ms (getD live l 0) noState) x (getD bands (getD live l 0) noCoeffs) .state)
+-- the memories after live band number l has ticked, and band b's memory after it was its turn
+abbrev liveTick : List ℕ → List Float → Float → ℕ → List Float → List Float
+liveTick live lists x l ms = withMemory ms (getD live l 0) (tickOf (memoryAt ms (getD live l 0)) x (bandAt lists (getD live l 0)) .state)
 
-abbrev bandTick : (ℕ → Bool) → List BiquadCoeffs → Float → ℕ → BiquadState → BiquadState
-bandTick test bands x i s = pick (test i) (tickOf s x (getD bands i noCoeffs) .state) s
+abbrev pub bandTick : Bool → List Float → Float → List Float → ℕ → BiquadState
+bandTick live lists x ms b = pick live (tickOf (memoryAt ms b) x (bandAt lists b) .state) (memoryAt ms b)
 
 module _ (k : Kind) (es : List PitchEntry) where
-  module _ (live : List ℕ) (bands : List BiquadCoeffs) (x : Float) (ms : List BiquadState) where
+  -- ms with the turn of the first b bands over
+  pub record BandsTurned (lists : List Float) (x : Float) (ms : List Float) (b : ℕ) (ns : List Float) : Type 0 where
+    pub size : length ns ≡ 32
+    pub below : (i : ℕ) → i < b → memoryAt ns i ≡ bandTick (isLive k es i) lists x ms i
+    pub above : (i : ℕ) → b ≤ i → memoryAt ns i ≡ memoryAt ms i
+
+  module _ (live : List ℕ) (lists : List Float) (x : Float) (ms : List Float) where
     -- band b is live, and its number is n
-    tick-live : (b n : ℕ) (ls : List BiquadState) → isLive k es b ≡ true → getD live n 0 ≡ b → ls ≡ mapTo (bandTick (isLive k es) bands x) 0 b ms
-        → liveTick live bands x n ls ≡ mapTo (bandTick (isLive k es) bands x) 0 (suc b) ms
-    tick-live b n ls t e h =
+    tick-live : (b n : ℕ) (ns : List Float) → b < 16 → isLive k es b ≡ true → getD live n 0 ≡ b → BandsTurned lists x ms b ns → BandsTurned lists x ms (suc b) (liveTick live lists x n ns)
+    tick-live b n ns h t e T =
+        let new = tickOf (memoryAt ns b) x (bandAt lists b) .state in
+        let turn : memoryAt (withMemory ns b new) b ≡ bandTick (isLive k es b) lists x ms b =
+        memory-written ns b new (omega (arith, T .size)) ∙ rw (t, T .above b (omega arith)) in
         rw e
-        (ap (λ u. set ls b (pick u (tickOf (getD ls b noState) x (getD bands b noCoeffs) .state) (getD ls b noState))) (sym t)
-        ∙ mapTo-next (bandTick (isLive k es) bands x) noState b ms ls h)
+        (record {
+          size = length-with ns b new ∙ T .size;
+          below = λ i l.
+              ⊎-elim (λ (q : i ≡ b). rw q turn) (λ (q : i < b). memory-kept ns i b new (λ (z : i ≡ b). omega arith) ∙ T .below i q)
+              (eq-or-lt-of-le (omega arith));
+          above = λ i l. memory-kept ns i b new (λ (z : i ≡ b). omega arith) ∙ T .above i (omega arith);
+        })
 
     -- band b is not
-    tick-still : (b : ℕ) (ls : List BiquadState) → isLive k es b ≡ false → ls ≡ mapTo (bandTick (isLive k es) bands x) 0 b ms
-        → ls ≡ mapTo (bandTick (isLive k es) bands x) 0 (suc b) ms
-    tick-still b ls t h = mapTo-stays (bandTick (isLive k es) bands x) noState b ms ls (λ s. rw t) h
+    tick-still : (b : ℕ) (ns : List Float) → isLive k es b ≡ false → BandsTurned lists x ms b ns → BandsTurned lists x ms (suc b) ns
+    tick-still b ns t T = record {
+      size = T .size;
+      below = λ i l. ⊎-elim (λ (q : i ≡ b). rw (q, t) (T .above b (omega arith))) (λ (q : i < b). T .below i q) (eq-or-lt-of-le (omega arith));
+      above = λ i l. T .above i (omega arith);
+    }
 
-    by-test : (b : ℕ) (rest : List ℕ) (u : Bool) → isLive k es b ≡ u → live ≡ (liveBands k es b ++ pick u (b ∷ []) []) ++ rest
-        → ((rest : List ℕ) → live ≡ liveBands k es b ++ rest → steps (liveTick live bands x) ms (length (liveBands k es b)) ≡ mapTo (bandTick (isLive k es) bands x) 0 b ms)
-        → steps (liveTick live bands x) ms (length (liveBands k es b ++ pick u (b ∷ []) [])) ≡ mapTo (bandTick (isLive k es) bands x) 0 (suc b) ms
+    by-test : (b : ℕ) (rest : List ℕ) (u : Bool) → b < 16 → isLive k es b ≡ u → live ≡ (liveBands k es b ++ pick u (b ∷ []) []) ++ rest
+        → ((rest : List ℕ) → live ≡ liveBands k es b ++ rest → BandsTurned lists x ms b (steps (liveTick live lists x) ms (length (liveBands k es b))))
+        → BandsTurned lists x ms (suc b) (steps (liveTick live lists x) ms (length (liveBands k es b ++ pick u (b ∷ []) [])))
     unfolding steps
-    by-test b rest true t e h =
+    by-test b rest true l t e h =
         let d : live ≡ liveBands k es b ++ (b ∷ rest) = e ∙ append-assoc (liveBands k es b) (b ∷ []) rest in
         rw (length-append, add-one)
-        (tick-live b (length (liveBands k es b)) _ t (ap (λ l. getD l (length (liveBands k es b)) 0) d ∙ getD-append-seam (liveBands k es b) b rest 0) (h (b ∷ rest) d))
-    by-test b rest false t e h = rw append-nil (tick-still b _ t (h rest (rw append-nil at e)))
+        (tick-live b (length (liveBands k es b)) _ l t (ap (λ l. getD l (length (liveBands k es b)) 0) d ∙ getD-append-seam (liveBands k es b) b rest 0) (h (b ∷ rest) d))
+    by-test b rest false l t e h = rw append-nil (tick-still b _ t (h rest (rw append-nil at e)))
 
     -- LAW: the live bands of the first b, one after the other, are the first b bands, each where it is live
-    pub live-bands : (b : ℕ) (rest : List ℕ) → live ≡ liveBands k es b ++ rest
-        → steps (liveTick live bands x) ms (length (liveBands k es b)) ≡ mapTo (bandTick (isLive k es) bands x) 0 b ms
-    unfolding liveBands steps mapTo
-    live-bands zero rest e = refl
-    live-bands (suc b) rest e = by-test b rest (isLive k es b) refl e (live-bands b)
+    pub live-bands : length ms ≡ 32 → (b : ℕ) (rest : List ℕ) → b ≤ 16 → live ≡ liveBands k es b ++ rest
+        → BandsTurned lists x ms b (steps (liveTick live lists x) ms (length (liveBands k es b)))
+    unfolding liveBands steps
+    live-bands n zero rest l e = record { size = n; below = λ i z. absurd (omega arith); above = λ i z. refl }
+    live-bands n (suc b) rest l e = by-test b rest (isLive k es b) l refl e (λ r d. live-bands n b r (omega arith) d)
 
   -- ---- which numbers are in the list of live bands
   or-assoc : (a b c : Bool) → (a || b) || c ≡ a || (b || c)
@@ -105,22 +123,32 @@ module _ (k : Kind) (es : List PitchEntry) where
       (λ (l : n < b). rw (isIn-live n b l, isIn-other n b (isLive k es b) (λ e. omega arith)) (or-false (isLive k es n)))
       (eq-or-lt-of-le (omega arith))
 
--- ---- the machine's ticks are those of the first n
-pub take-tick : (test : ℕ → Bool) (x : Float) (live : List ℕ) (all cs : List BiquadCoeffs) (k n : ℕ) (l : List BiquadState)
-    → ((i : ℕ) → i < n → isIn (k + i) live ≡ test (k + i)) → ((i : ℕ) → i < n → getD all (k + i) noCoeffs ≡ getD cs i noCoeffs)
-    → take n (mapTo (bandTick test all x) k n l) ≡ tick k x live cs (take n l)
-unfolding mapTo tick
-take-tick test x live all cs k zero l h g = refl
-take-tick test x live all cs k (suc n) [] h g = refl
-take-tick test x live all [] k (suc n) (s ∷ l) h g =
-    let z : getD all k noCoeffs ≡ noCoeffs = rw add-zero at (g 0 (omega arith)) in
-    let t : isIn k live ≡ test k = rw add-zero at (h 0 (omega arith)) in
-    rw (z, t, add-one k)
-    (ap (λ r. pick (test k) (tickOf s x noCoeffs .state) s ∷ r)
-    (take-tick test x live all [] (suc k) n l (λ i l. rw (suc-add k i, ← add-suc k i) (h (suc i) (omega arith))) (λ i l. rw (suc-add k i, ← add-suc k i) (g (suc i) (omega arith)))))
-take-tick test x live all (c ∷ cs) k (suc n) (s ∷ l) h g =
-    let z : getD all k noCoeffs ≡ c = rw add-zero at (g 0 (omega arith)) in
-    let t : isIn k live ≡ test k = rw add-zero at (h 0 (omega arith)) in
-    rw (z, t, add-one k)
-    (ap (λ r. pick (test k) (tickOf s x c .state) s ∷ r)
-    (take-tick test x live all cs (suc k) n l (λ i l. rw (suc-add k i, ← add-suc k i) (h (suc i) (omega arith))) (λ i l. rw (suc-add k i, ← add-suc k i) (g (suc i) (omega arith)))))
+-- ---- the machine's ticks, place by place
+length-tick : (b : ℕ) (x : Float) (live : List ℕ) (cs : List BiquadCoeffs) (ss : List BiquadState) → length (tick b x live cs ss) ≡ length ss
+unfolding tick
+length-tick b x live [] ss = refl
+length-tick b x live (c ∷ cs) [] = refl
+length-tick b x live (c ∷ cs) (s ∷ ss) = ap suc (length-tick (b + 1) x live cs ss)
+
+tick-at : (b : ℕ) (x : Float) (live : List ℕ) (cs : List BiquadCoeffs) (ss : List BiquadState) (i : ℕ) → i < length cs → i < length ss
+    → getD (tick b x live cs ss) i cleared ≡ pick (isIn (b + i) live) (tickOf (getD ss i cleared) x (getD cs i zeroCoeffs) .state) (getD ss i cleared)
+unfolding tick
+tick-at b x live [] ss i h l = absurd (omega arith)
+tick-at b x live (c ∷ cs) [] i h l = absurd (omega arith)
+tick-at b x live (c ∷ cs) (s ∷ ss) zero h l = rw add-zero
+tick-at b x live (c ∷ cs) (s ∷ ss) (suc i) h l =
+    let e : b + suc i ≡ b + 1 + i = omega arith in
+    rw e (tick-at (b + 1) x live cs ss i (omega arith) (omega arith))
+
+-- LAW: n memories in which each band had its turn are the machine's
+pub tick-is : (x : Float) (live : List ℕ) (cs : List BiquadCoeffs) (f g : ℕ → BiquadState) (n : ℕ) → length cs ≡ n
+    → ((i : ℕ) → i < n → g i ≡ pick (isIn i live) (tickOf (f i) x (getD cs i zeroCoeffs) .state) (f i)) → upTo g n ≡ tick 0 x live cs (upTo f n)
+tick-is x live cs f g n m h =
+    let p = length-upTo g n in
+    let q = length-upTo f n in
+    ext-getD cleared (upTo g n) (tick 0 x live cs (upTo f n)) (p ∙ sym q ∙ sym (length-tick 0 x live cs (upTo f n)))
+    (λ i l.
+    let w : i < n = omega arith in
+    upTo-at g n i cleared w
+    ∙ h i w
+    ∙ sym (rw (tick-at 0 x live cs (upTo f n) i (omega arith) (omega arith), upTo-at f n i cleared w, zero-add i)))

@@ -1,6 +1,5 @@
 -- P1 to P11, proved together. Assumes nothing.
-use mathlib.Core.Path.{_≡_, refl}
-use lib.Ieee.{round}
+use mathlib.Core.Path.{refl}
 use Rattle.wire.specs.Parse.{many}
 use Rattle.wire.specs.Cursor.{takeAt, u16, u32, stringOf, string}
 use Rattle.wire.specs.Utf8.{lead, octet, octets}

@@ -1,4 +1,5 @@
 pub mod Folds
+pub mod Memories
 pub mod Sides
 pub mod Rules
 pub mod Front

@@ -2,11 +2,10 @@
 -- Assumes nothing.
 use mathlib.Core.Path.{_≡_, refl, ap, sym, _∙_}
 use mathlib.Core.List.{List, [], _∷_, _++_, map}
-use mathlib.Core.Bool.{true}
+use mathlib.Core.Bool.{Bool, true, false}
 use Prim.Native.Nat.{ℕ, zero, suc, _+_, _≤_, _<_}
-use native.Mathlib.Nat.{zero-add}
 use native.Mathlib.Omega.{arith}
-use lib.ListN.{length, take, replicate, length-map}
+use lib.ListN.{length, take, getD, replicate, length-map}
 use lib.Dec.{eqb}
 use lib.Ieee.{Float}
 use borrow.Author.Tests.{ne-eqb}
@@ -19,35 +18,37 @@ use Rattle.voice.specs.Lists.{mapTo, steps, upTo, padded}
 use Rattle.player.specs.Phase.{advanceOf, stepOf, inverseOf}
 use Rattle.filters.specs.Rng.{stepped, bipolarOf, nextBipolar, newRng}
 use Rattle.filters.specs.Biquad.{cleared, noiseBand}
+use Rattle.filters.specs.Band.{zeroCoeffs}
 use Rattle.voice.specs.Input.{frequencyAt, cleaned}
-use Rattle.voice.specs.Voice.{keepsRules, withState, firstState, noCoeffs}
+use Rattle.voice.specs.Voice.{bandAt, memoryAt, keepsRules, withState, stateOf, firstState}
 use Rattle.player.specs.Sound.{unitVariance, noiseIn, sidesAt, stretchAt, movedPhases, movedRng, movedMemories, moved}
-use Rattle.player.specs.Block.{stateAt}
-use Rattle.voice.specs.Question.{accepted, playQuestion}
+use Rattle.player.specs.Block.{stateAt, blockEnd}
+use Rattle.voice.specs.Question.{ask, accepted, playQuestion}
 use Rattle.player.specs.Play.{played}
 use Rattle.voice.specs.Restart.{resetOf, reseedOf, reseededState}
-use Rattle.making.specs.Making.{f32, voiceEntries, liveBands, isLive, freshVoice}
-use Rattle.filters.specs.Band.{zeroCoeffs}
-use Rattle.filters.specs.declared.biquad.BiquadState.{BiquadState}
+use Rattle.making.specs.Making.{f32, voiceEntries, liveBands, freshVoice, Making}
+use Rattle.voice.proofs.MemoryLaws.{length-with}
+use Rattle.making.proofs.FreshLaws.{fresh-pitches, fresh-stretches, fresh-band}
 use Rattle.filters.specs.declared.rng.Rng.{Rng}
 use Rattle.voice.specs.declared.voice.State.{State}
 use Rattle.voice.specs.declared.voice.Voice.{Voice}
-use Rattle.claim.specs.Machine.{Plain, plainFrom, Machine, Event, frequency, seed, startFrom, gain, tick, stretchOf, noiseNext, atFrequency, move, machineFrom}
-use Rattle.claim.specs.Calls.{Call, play, resetCall, reseed, after, run, fedBy, fed, running, CallsF32}
+use Rattle.claim.specs.Machine.{Plain, plainFrom, Machine, Event, frequency, seed, startFrom, advanced, tick, stretchOf, noiseNext, atFrequency, Supplied, supplied, move, machineFrom}
+use Rattle.claim.specs.Calls.{VoiceCall, playing, resetting, reseeding, after, run, fedBy, fed, running, CallsF32}
 use Rattle.claim.proofs.Folds.{take-replicate, getD-padded}
+use Rattle.claim.proofs.Memories.{memories-first}
 use Rattle.claim.proofs.Front.{stretch-front}
-use Rattle.claim.proofs.Bands.{live-bands, isIn-live, take-tick}
+use Rattle.claim.proofs.Bands.{live-bands, isIn-live, tick-is}
 use Rattle.claim.proofs.Rules.{VoiceF32, question-call, question-none, rules-kept, after-state, with-32}
 
 -- the first n phases of a list whose first n are moved
-take-gain : (f0 stretch inv : Float) (k n : ℕ) (l : List Float)
-    → take n (mapTo (λ i p. advanceOf p (stepOf (i + 1) f0 stretch inv)) k n l) ≡ gain (k + 1) f0 stretch inv (take n l)
-unfolding mapTo gain
-take-gain f0 stretch inv k zero l = refl
-take-gain f0 stretch inv k (suc n) [] = refl
-take-gain f0 stretch inv k (suc n) (p ∷ l) =
+take-advanced : (f0 stretch inv : Float) (k n : ℕ) (l : List Float)
+    → take n (mapTo (λ i p. advanceOf p (stepOf (i + 1) f0 stretch inv)) k n l) ≡ advanced (k + 1) f0 stretch inv (take n l)
+unfolding mapTo advanced
+take-advanced f0 stretch inv k zero l = refl
+take-advanced f0 stretch inv k (suc n) [] = refl
+take-advanced f0 stretch inv k (suc n) (p ∷ l) =
     let e : suc k + 1 ≡ k + 1 + 1 = omega arith in
-    rw (← e) (ap (λ t. advanceOf p (stepOf (k + 1) f0 stretch inv) ∷ t) (take-gain f0 stretch inv (suc k) n l))
+    rw (← e) (ap (λ t. advanceOf p (stepOf (k + 1) f0 stretch inv) ∷ t) (take-advanced f0 stretch inv (suc k) n l))
 
 -- the noise number: it steps where the list of live bands is not empty
 noise-next : (live : List ℕ) (g : Rng) → pick (eqb (length live) 0) g (nextBipolar g .rng) .state ≡ noiseNext live (g .state)
@@ -57,7 +58,7 @@ noise-next (b ∷ live) g = rw (ne-eqb (suc (length live)) 0 (λ e. omega arith)
 -- with no entries nothing moves, on both sides
 by-entries : (vs : List PitchEntry) (pitch : PitchEntry → Float) (x : Plain) (f0 : Float) (look : State → Machine) (s t : State)
     → (0 < length vs → look t ≡ record {
-      phases = gain 1 f0 (stretchOf x f0) (inverseOf (x .rate)) (look s .phases);
+      phases = advanced 1 f0 (stretchOf x f0) (inverseOf (x .rate)) (look s .phases);
       memories = tick 0 (bipolarOf (stepped (look s .noise)) ⊗ unitVariance) (x .live) (x .bands) (look s .memories);
       noise = noiseNext (x .live) (look s .noise);
     })
@@ -65,120 +66,167 @@ by-entries : (vs : List PitchEntry) (pitch : PitchEntry → Float) (x : Plain) (
 by-entries [] pitch x f0 look s t h = refl
 by-entries (v ∷ vs) pitch x f0 look s t h = rw (ne-eqb (suc (length vs)) 0 (λ e. omega arith)) (h (omega arith))
 
-machine-append : (x : Plain) (s : Machine) (a b : List Event) → machineFrom x s (a ++ b) ≡ machineFrom x (machineFrom x s a) b
+machine-append : (y : Supplied) (a b : List Event) → machineFrom y (a ++ b) ≡ machineFrom (machineFrom y a) b
 unfolding machineFrom
-machine-append x s [] b = refl
-machine-append x s (e ∷ a) b = machine-append x (move x s e) a b
+machine-append y [] b = refl
+machine-append y (e ∷ a) b = machine-append (move (y .source) (y .state) e) a b
 
 -- what moves does not go by the running state of the voice
 moved-with : (v : Voice) (s t : State) (f0 : Float) → moved (withState v s) f0 t ≡ moved v f0 t
 unfolding moved movedPhases movedMemories movedRng sidesAt
 moved-with v s t f0 = refl
 
+-- ---- the memories are 32 places throughout
+pub record Sized (s : State) : Type 0 where
+  pub places : length (s .memories) ≡ 32
+
+pick-sized : (b : Bool) (s t : State) → Sized s → Sized t → Sized (pick b s t)
+pick-sized true s t h k = h
+pick-sized false s t h k = k
+
+steps-length : (f : ℕ → List Float → List Float) → ((i : ℕ) (l : List Float) → length (f i l) ≡ length l) → (l : List Float) (n : ℕ) → length (steps f l n) ≡ length l
+unfolding steps
+steps-length f h l zero = refl
+steps-length f h l (suc n) = h n (steps f l n) ∙ steps-length f h l n
+
+moved-sized : (v : Voice) (f0 : Float) (s : State) → Sized s → Sized (moved v f0 s)
+unfolding moved movedMemories
+moved-sized v f0 s h =
+    pick-sized (eqb (v .set .count) 0) s _ h (record { places = steps-length _ (λ l ms. length-with ms _ _) (s .memories) (v .set .«live_count») ∙ h .places })
+
+stateAt-sized : (v : Voice) (freq : ℕ → Float) (n : ℕ) → Sized (v .state) → Sized (stateAt v freq n)
+unfolding stateAt steps
+stateAt-sized v freq zero h = h
+stateAt-sized v freq (suc n) h = moved-sized v (cleaned (freq n)) (stateAt v freq n) (stateAt-sized v freq n h)
+
+accepted-sized : (q : ℕ) (v : Voice) (s : State) → Sized (v .state) → Sized s → Sized (accepted q (withState v s) v .state)
+accepted-sized zero v s h k = k
+accepted-sized (suc q) v s h k = h
+
+pub first-sized : Sized firstState
+first-sized = record { places = refl }
+
+after-sized : (v : Voice) (c : VoiceCall) → Sized (v .state) → Sized (after v c .state)
+unfolding after played resetOf reseedOf
+after-sized v (playing c out) h = accepted-sized (playQuestion v c (length out)) v (blockEnd v c) h (stateAt-sized v (frequencyAt c 0) (c .shape .samples) h)
+after-sized v resetting h = accepted-sized (ask (keepsRules v) 13 0) v firstState h first-sized
+after-sized v (reseeding n) h = accepted-sized (ask (keepsRules v) 13 0) v (reseededState (v .state) n) h (record { places = refl })
+
 -- by the question's number: the voice's state and what the machine is fed
-view-accepted : (x : Plain) (q : ℕ) (v w : Voice) (evs : List Event) → running w ≡ machineFrom x (running v) evs
-    → running (accepted q w v) ≡ machineFrom x (running v) (accepted q evs [])
+view-accepted : (x : Plain) (q : ℕ) (v w : Voice) (evs : List Event) → supplied x (running w) ≡ machineFrom (supplied x (running v)) evs
+    → supplied x (running (accepted q w v)) ≡ machineFrom (supplied x (running v)) (accepted q evs [])
 unfolding machineFrom
 view-accepted x zero v w evs h = h
 view-accepted x (suc q) v w evs h = refl
 
-module _ (k : Kind) (es : List PitchEntry) (rate : Float) (centres : List Float) where
+module _ (k : Kind) (es : List PitchEntry) (rate : Float) (centres : List Float) (few : length (voiceEntries k es) ≤ 16) (j : length centres ≡ bandCount k es) where
   abbrev fresh : Voice
   fresh = freshVoice k es rate centres
 
   abbrev plainly : Plain
   plainly = plainFrom k es rate centres
 
-  -- what is in use of a state of the fresh voice
+  -- what is in use of a state of the fresh voice, and the same beside what the machine takes
   abbrev view : State → Machine
   view s = running (withState fresh s)
 
+  abbrev supply : State → Supplied
+  supply s = supplied plainly (view s)
+
+  count-is : fresh .set .count ≡ length (voiceEntries k es)
+  unfolding freshVoice
+  count-is = refl
+
   stretch-same : (f0 : Float) → 0 < length (voiceEntries k es) → stretchAt fresh f0 ≡ stretchOf plainly f0
-  unfolding freshVoice sidesAt
+  unfolding sidesAt
   stretch-same f0 h =
-      stretch-front (map (λ e. f32 (e .f0Hz)) (voiceEntries k es)) _ (map (λ e. f32 (e .stretch)) (voiceEntries k es)) _ (length (voiceEntries k es)) f0
-      (length-map (voiceEntries k es) (λ e. f32 (e .f0Hz))) (length-map (voiceEntries k es) (λ e. f32 (e .stretch))) h
+      rw (fresh-pitches k es rate centres few, fresh-stretches k es rate centres few, count-is)
+      (stretch-front (map (λ e. f32 (e .f0Hz)) (voiceEntries k es)) _ (map (λ e. f32 (e .stretch)) (voiceEntries k es)) _ (length (voiceEntries k es)) f0
+      (length-map (voiceEntries k es) (λ e. f32 (e .f0Hz))) (length-map (voiceEntries k es) (λ e. f32 (e .stretch))) h)
 
   phases-same : (f0 : Float) (ps : List Float) → 0 < length (voiceEntries k es)
-      → take (plainly .phases) (movedPhases fresh f0 ps) ≡ gain 1 f0 (stretchOf plainly f0) (inverseOf rate) (take (plainly .phases) ps)
+      → take (plainly .phases) (movedPhases fresh f0 ps) ≡ advanced 1 f0 (stretchOf plainly f0) (inverseOf rate) (take (plainly .phases) ps)
   unfolding freshVoice movedPhases
-  phases-same f0 ps h = rw (← stretch-same f0 h) (take-gain f0 (stretchAt fresh f0) (inverseOf rate) 0 (plainly .phases) ps)
+  phases-same f0 ps h = rw (← stretch-same f0 h) (take-advanced f0 (stretchAt fresh f0) (inverseOf rate) 0 (plainly .phases) ps)
 
-  module _ (j : length centres ≡ bandCount k es) where
-    memories-same : (r : Rng) (ms : List BiquadState)
-        → take (bandCount k es) (movedMemories fresh r ms) ≡ tick 0 (noiseIn r) (plainly .live) (plainly .bands) (take (bandCount k es) ms)
+  bands-length : length (plainly .bands) ≡ bandCount k es
+  bands-length = length-map centres (λ c. noiseBand c rate) ∙ j
+
+  module _ (most : bandCount k es ≤ 16) where
+    -- band b of the voice is the machine's
+    band-same : (b : ℕ) → b < bandCount k es → bandAt (fresh .lists) b ≡ getD (plainly .bands) b zeroCoeffs
+    band-same b l =
+        fresh-band k es rate centres few (omega arith) b (omega arith) ∙ getD-padded 16 zeroCoeffs zeroCoeffs (plainly .bands) b (omega (arith, bands-length))
+
+    memories-same : (r : Rng) (ms : List Float) → length ms ≡ 32
+        → upTo (memoryAt (movedMemories fresh r ms)) (bandCount k es) ≡ tick 0 (noiseIn r) (plainly .live) (plainly .bands) (upTo (memoryAt ms) (bandCount k es))
     unfolding freshVoice movedMemories
-    memories-same r ms =
+    memories-same r ms h =
         let n = bandCount k es in
         let live = liveBands k es n in
-        let bands = map (λ c. noiseBand c rate) centres in
-        ap (λ t. take n t) (live-bands k es (padded 16 0 live) (padded 16 zeroCoeffs bands) (noiseIn r) ms n _ refl)
-        ∙ take-tick (isLive k es) (noiseIn r) live (padded 16 zeroCoeffs bands) bands 0 n ms
-        (λ i l. isIn-live k es (0 + i) n (omega arith))
-        (λ i l. rw zero-add (getD-padded 16 zeroCoeffs noCoeffs bands i (rw (length-map centres (λ c. noiseBand c rate)) (omega arith))))
+        let T = live-bands k es (padded 16 0 live) (fresh .lists) (noiseIn r) ms h n _ most refl in
+        tick-is (noiseIn r) live (plainly .bands) (memoryAt ms) (memoryAt (movedMemories fresh r ms)) n bands-length
+        (λ i l. T .below i l ∙ rw (isIn-live k es i n l, band-same i l))
 
     -- one frequency, where there is an entry
-    view-entries : (f0 : Float) (s : State) → 0 < length (voiceEntries k es)
-        → view (record { phases = movedPhases fresh f0 (s .phases); memories = movedMemories fresh (s .rng) (s .memories); rng = movedRng fresh (s .rng) })
+    view-entries : (f0 : Float) (s : State) → Sized s → 0 < length (voiceEntries k es)
+        → view (stateOf (movedPhases fresh f0 (s .phases)) (movedMemories fresh (s .rng) (s .memories)) (movedRng fresh (s .rng)))
         ≡ record {
-          phases = gain 1 f0 (stretchOf plainly f0) (inverseOf rate) (take (plainly .phases) (s .phases));
-          memories = tick 0 (noiseIn (s .rng)) (plainly .live) (plainly .bands) (take (bandCount k es) (s .memories));
+          phases = advanced 1 f0 (stretchOf plainly f0) (inverseOf rate) (take (plainly .phases) (s .phases));
+          memories = tick 0 (noiseIn (s .rng)) (plainly .live) (plainly .bands) (upTo (memoryAt (s .memories)) (bandCount k es));
           noise = noiseNext (plainly .live) (s .rng .state);
         }
     unfolding freshVoice movedRng
-    view-entries f0 s h = rw (phases-same f0 (s .phases) h, memories-same (s .rng) (s .memories), noise-next (plainly .live) (s .rng))
+    view-entries f0 s z h = rw (phases-same f0 (s .phases) h, memories-same (s .rng) (s .memories) (z .places), noise-next (plainly .live) (s .rng))
 
     -- LAW: one sample
-    pub view-moved : (f : Float) (s : State) → view (moved fresh (cleaned f) s) ≡ move plainly (view s) (frequency f)
+    pub view-moved : (f : Float) (s : State) → Sized s → supply (moved fresh (cleaned f) s) ≡ move plainly (view s) (frequency f)
     unfolding freshVoice moved move
-    view-moved f s = by-entries (voiceEntries k es) (λ e. f32 (e .f0Hz)) plainly (cleaned f) view s _ (view-entries (cleaned f) s)
+    view-moved f s z = ap (supplied plainly) (by-entries (voiceEntries k es) (λ e. f32 (e .f0Hz)) plainly (cleaned f) view s _ (view-entries (cleaned f) s z))
 
     -- LAW: the samples of a play
-    pub view-stateAt : (s : State) (freq : ℕ → Float) (n : ℕ)
-        → view (stateAt (withState fresh s) freq n) ≡ machineFrom plainly (view s) (upTo (λ i. frequency (freq i)) n)
+    pub view-stateAt : (s : State) (freq : ℕ → Float) (n : ℕ) → Sized s
+        → supply (stateAt (withState fresh s) freq n) ≡ machineFrom (supply s) (upTo (λ i. frequency (freq i)) n)
     unfolding stateAt steps upTo machineFrom
-    view-stateAt s freq zero = refl
-    view-stateAt s freq (suc n) =
+    view-stateAt s freq zero z = refl
+    view-stateAt s freq (suc n) z =
         let t = stateAt (withState fresh s) freq n in
-        ap view (moved-with fresh s t (cleaned (freq n)))
-        ∙ view-moved (freq n) t
-        ∙ ap (λ z. move plainly z (frequency (freq n))) (view-stateAt s freq n)
-        ∙ sym (machine-append plainly (view s) (upTo (λ i. frequency (freq i)) n) (frequency (freq n) ∷ []))
-
-    bands-length : length (plainly .bands) ≡ bandCount k es
-    bands-length = length-map centres (λ c. noiseBand c rate) ∙ j
+        ap supply (moved-with fresh s t (cleaned (freq n)))
+        ∙ view-moved (freq n) t (stateAt-sized (withState fresh s) freq n z)
+        ∙ ap (λ y. move (y .source) (y .state) (frequency (freq n))) (view-stateAt s freq n z)
+        ∙ sym (machine-append (supply s) (upTo (λ i. frequency (freq i)) n) (frequency (freq n) ∷ []))
 
     -- the running state at first is the machine's start
-    pub view-first : plainly .phases ≤ 32 → bandCount k es ≤ 16 → view firstState ≡ startFrom plainly
+    pub view-first : plainly .phases ≤ 32 → view firstState ≡ startFrom plainly
     unfolding freshVoice
-    view-first a b = rw (take-replicate (nearest 0 1) (plainly .phases) 32 a, take-replicate cleared (bandCount k es) 16 b, bands-length)
+    view-first a = rw (take-replicate (nearest 0 1) (plainly .phases) 32 a, memories-first (bandCount k es) most, bands-length)
 
-    view-reseed : (s : State) (n : ℕ) → bandCount k es ≤ 16 → view (reseededState s n) ≡ move plainly (view s) (seed n)
+    view-reseed : (s : State) (n : ℕ) → supply (reseededState s n) ≡ move plainly (view s) (seed n)
     unfolding freshVoice move
-    view-reseed s n b =
-        ap (λ ms. record { phases = take (plainly .phases) (s .phases); memories = ms; noise = newRng n .state })
-        (take-replicate cleared (bandCount k es) 16 b ∙ ap (λ l. replicate l cleared) (sym bands-length))
+    view-reseed s n =
+        ap (λ ms. supplied plainly (record { phases = take (plainly .phases) (s .phases); memories = ms; noise = newRng n .state }))
+        (memories-first (bandCount k es) most ∙ ap (λ l. replicate l cleared) (sym bands-length))
 
     -- LAW: one call
-    pub view-after : (s : State) (c : Call) → plainly .phases ≤ 32 → bandCount k es ≤ 16 → keepsRules (withState fresh s) ≡ true
-        → running (after (withState fresh s) c) ≡ machineFrom plainly (view s) (fedBy c)
+    pub view-after : (m : Making) (s : State) (c : VoiceCall) → plainly .phases ≤ 32 → Sized s → keepsRules (withState fresh s) ≡ true
+        → supplied plainly (running (after (withState fresh s) c)) ≡ machineFrom (supply s) (fedBy m c)
     unfolding after played resetOf reseedOf fedBy machineFrom move
-    view-after s (play n freq fs g channels out) a b h =
-        rw (← question-call (withState fresh s) n freq fs g channels (length out) h)
-        (view-accepted plainly (playQuestion (withState fresh s) n freq fs g channels (length out)) (withState fresh s) _ _ (view-stateAt s (frequencyAt freq fs n 0) n))
-    view-after s resetCall a b h = rw (question-none (withState fresh s) h) (view-first a b)
-    view-after s (reseed n) a b h = rw (question-none (withState fresh s) h) (view-reseed s n b)
+    view-after m s (playing c out) a z h =
+        rw (← question-call (withState fresh s) c (length out) h)
+        (view-accepted plainly (playQuestion (withState fresh s) c (length out)) (withState fresh s) _ _ (view-stateAt s (frequencyAt c 0) (c .shape .samples) z))
+    view-after m s resetting a z h = rw (question-none (withState fresh s) h) (ap (supplied plainly) (view-first a))
+    view-after m s (reseeding n) a z h = rw (question-none (withState fresh s) h) (view-reseed s n)
 
     -- LAW: a list of calls
-    pub view-run : (cs : List Call) (s : State) → plainly .phases ≤ 32 → bandCount k es ≤ 16 → VoiceF32 fresh → CallsF32 cs → keepsRules (withState fresh s) ≡ true
-        → running (run (withState fresh s) cs) ≡ machineFrom plainly (view s) (fed cs)
+    pub view-run : (m : Making) (cs : List VoiceCall) (s : State) → plainly .phases ≤ 32 → VoiceF32 fresh → CallsF32 cs → Sized s → keepsRules (withState fresh s) ≡ true
+        → supplied plainly (running (run (withState fresh s) cs)) ≡ machineFrom (supply s) (fed m cs)
     unfolding run fed CallsF32 machineFrom
-    view-run [] s a b W C h = refl
-    view-run (c ∷ cs) s a b W C h =
+    view-run m [] s a W C z h = refl
+    view-run m (c ∷ cs) s a W C z h =
         let v = withState fresh s in
         let t = after v c .state in
         let e : after v c ≡ withState fresh t = after-state v c in
-        ap (λ w. running (run w cs)) e
-        ∙ view-run cs t a b W (C .1) (rw e at (rules-kept v c (with-32 fresh s W) (C .0) h))
-        ∙ ap (λ z. machineFrom plainly z (fed cs)) (ap (λ w. running w) (sym e) ∙ view-after s c a b h)
-        ∙ sym (machine-append plainly (view s) (fedBy c) (fed cs))
+        ap (λ w. supplied plainly (running (run w cs))) e
+        ∙ view-run m cs t a W (C .1) (after-sized v c z) (rw e at (rules-kept v c (with-32 fresh s W) (C .0) h))
+        ∙ ap (λ y. machineFrom y (fed m cs)) (ap (λ w. supplied plainly (running w)) (sym e) ∙ view-after m s c a z h)
+        ∙ sym (machine-append (supply s) (fedBy m c) (fed m cs))

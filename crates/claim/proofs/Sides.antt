@@ -1,43 +1,23 @@
 -- The two sides of a frequency: both are entries, the share is from 0 to 1, and the stretch between them is from 0 to 8. Assumes nothing.
-use mathlib.Core.Path.{_≡_, refl, subst}
-use mathlib.Core.Logic.{_⊎_, inl, inr}
+use mathlib.Core.Path.{_≡_, refl, sym}
 use mathlib.Core.List.{List}
 use mathlib.Core.Bool.{Bool, true, false}
-use Prim.Native.Nat.{ℕ, zero, suc, _-_, _*_, _≤_, _<_}
+use Prim.Native.Nat.{ℕ, zero, suc, _-_, _≤_, _<_}
 use native.Mathlib.Omega.{arith}
 use lib.ListN.{getD}
 use lib.Dec.{T, lit≤}
-use lib.Ieee.{Float, nan, inf, fin, binary32, round, le, lt, eq, fits}
-use lib.Ieee.Positive.{num, den}
+use lib.Ieee.{Float, nan, binary32, round, le, fits}
 use Rattle.wire.specs.Parse.{pick}
 use Rattle.float.specs.Range.{plain, Within}
 use Rattle.float.proofs.Finite.{shown}
-use Rattle.float.proofs.Within.{cross→le, cross→lt}
-use Rattle.float.proofs.Bounds.{le-or-lt}
 use Rattle.float.specs.F32.{nearest}
 use Rattle.player.specs.Share.{shareOf}
 use Rattle.player.specs.declared.bracket.Bracket.the-variants.{One}
 use Rattle.voice.specs.Voice.{pitchOk, stretchOk}
 use Rattle.player.specs.Bracket.{notAbove, neighbours, bracketOf, sidesOf, SidesIn, between}
-use Rattle.player.proofs.BracketLaws.{notAbove-in}
+use Rattle.player.proofs.BracketLaws.{notAbove-in, notAbove-le, above-it}
 use Rattle.player.proofs.PhaseLaws.{share-within}
-use Rattle.player.proofs.RangeLaws.{stretch-ok-within}
-
-pub pitch-plain : (f : Float) → pitchOk f ≡ true → T (plain f)
-unfolding round le lt eq
-pitch-plain nan h = absurd (shown _ h)
-pitch-plain (inf true) h = absurd (shown _ h)
-pitch-plain (inf false) h = absurd (shown _ h)
-pitch-plain (fin true m e) h = absurd (shown _ h)
-pitch-plain (fin false m e) h = tt
-
--- not at most is above, of floats with no sign
-le-off : (x y : Float) → T (plain x) → T (plain y) → le x y ≡ false → T (lt y x)
-le-off x y p q h = go (le-or-lt (num x * den y) (num y * den x))
-  where
-    go : (num x * den y ≤ num y * den x) ⊎ (num y * den x < num x * den y) → T (lt y x)
-    go (inl l) = absurd (subst T h (cross→le x y p q l))
-    go (inr l) = cross→lt y x q p l
+use Rattle.player.proofs.RangeLaws.{pitch-within, not-le, stretch-ok-within}
 
 module _ (l : List Float) (f0 : Float) where
   neighbours-in : (n k : ℕ) → 0 < n → k ≤ n - 1 → SidesIn n (sidesOf (neighbours l f0 k))
@@ -55,18 +35,6 @@ module _ (l : List Float) (f0 : Float) where
       go false true = record { low = omega arith; high = omega arith }
       go false false = neighbours-in n _ h (notAbove-in l f0 (n - 1))
 
-  -- the last not above f0 is not above it, and the one after it is
-  at-notAbove : (n k : ℕ) → notAbove l f0 n ≡ suc k → le (getD l n nan) f0 ≡ false → (le (getD l k nan) f0 ≡ true) × (le (getD l (suc k) nan) f0 ≡ false)
-  unfolding notAbove
-  at-notAbove zero k e h = absurd (omega arith)
-  at-notAbove (suc n) k e h = go (le (getD l n nan) f0) refl (at-notAbove n k) e
-    where
-      go : (b : Bool) → le (getD l n nan) f0 ≡ b
-          → (notAbove l f0 n ≡ suc k → le (getD l n nan) f0 ≡ false → (le (getD l k nan) f0 ≡ true) × (le (getD l (suc k) nan) f0 ≡ false))
-          → pick b (suc n) (notAbove l f0 n) ≡ suc k → (le (getD l k nan) f0 ≡ true) × (le (getD l (suc k) nan) f0 ≡ false)
-      go true q r e = let z : n ≡ k = omega arith in rw (← z) (q, h)
-      go false q r e = r e q
-
   module _ (n : ℕ) (pos : 0 < n) (pitches : (i : ℕ) → i < n → pitchOk (getD l i nan) ≡ true) (pitches32 : (i : ℕ) → i < n → T (fits binary32 (getD l i nan)))
       (P : T (plain f0)) (F : T (fits binary32 f0)) where
     zero-share : Within 1 1 (nearest 0 1)
@@ -75,16 +43,15 @@ module _ (l : List Float) (f0 : Float) where
 
     share-between : (k : ℕ) → suc k < n → le (getD l k nan) f0 ≡ true → le (getD l (suc k) nan) f0 ≡ false → Within 1 1 (shareOf (getD l k nan) f0 (getD l (suc k) nan))
     share-between k h a b =
-        let p = pitch-plain _ (pitches k (omega arith)) in
-        let q = pitch-plain _ (pitches (suc k) h) in
-        share-within (getD l k nan) f0 (getD l (suc k) nan) (pitches32 k (omega arith)) F (pitches32 (suc k) h) p P q (shown _ a) (le-off _ f0 q P b)
+        let p = pitch-within _ (pitches k (omega arith)) .plain-is in
+        let q = pitch-within _ (pitches (suc k) h) .plain-is in
+        share-within (getD l k nan) f0 (getD l (suc k) nan) (pitches32 k (omega arith)) F (pitches32 (suc k) h) p P q (shown _ a) (not-le _ f0 q P b)
 
     neighbours-share : (k : ℕ) → notAbove l f0 (n - 1) ≡ k → le (getD l (n - 1) nan) f0 ≡ false → Within 1 1 (sidesOf (neighbours l f0 k) .t)
     unfolding neighbours
     neighbours-share zero e h = zero-share
     neighbours-share (suc k) e h =
-        let g = at-notAbove (n - 1) k e h in
-        share-between k (omega (arith, notAbove-in l f0 (n - 1))) (g .0) (g .1)
+        share-between k (omega (arith, notAbove-in l f0 (n - 1))) (notAbove-le l f0 (n - 1) k e) (above-it l f0 (n - 1) (suc k) (sym e) h)
 
     -- LAW: the share is from 0 to 1
     pub sides-share : Within 1 1 (sidesOf (bracketOf l n f0) .t)

@@ -8,8 +8,7 @@ use lib.Ieee.Exact.{HasValue}
 use Rattle.wire.specs.Parse.{refusal, ok, refused}
 use Rattle.table.specs.Decode.{decode}
 use Rattle.table.specs.Answer.{counts}
-use Rattle.table.specs.Encode.{encode}
-use Rattle.table.specs.Rewrite.{rewriting, rewritten}
+use Rattle.table.specs.Rewrite.{rewritten}
 use Rattle.player.specs.declared.bracket.Bracket.{Bracket}
 use Rattle.float.specs.F32.{nearest}
 use Rattle.wave_table.specs.Wave.{quarterOf}
@@ -39,7 +38,8 @@ pub record Bench : Type 0 where
   -- name length 1, byte FF: 5
   pub p5 : counts (decode (0x4D ∷ 0x53 ∷ 0x43 ∷ 0x54 ∷ 1 ∷ 0 ∷ 1 ∷ 0 ∷ 0 ∷ 0 ∷ 0xFF ∷ [])) ≡ refused (refusal 5 0 0)
   -- P1 with version 0 rewrites to P1, whatever the target held
-  pub p6 : (a b c d e f g h i j k l m n : ℕ) → rewritten (decode (emptyTable 0)) (a ∷ b ∷ c ∷ d ∷ e ∷ f ∷ g ∷ h ∷ i ∷ j ∷ k ∷ l ∷ m ∷ n ∷ []) ≡ emptyTable 1
+  pub p6 : (a b c d e f g h i j k l m n : ℕ)
+      → rewritten (decode (emptyTable 0)) (a ∷ b ∷ c ∷ d ∷ e ∷ f ∷ g ∷ h ∷ i ∷ j ∷ k ∷ l ∷ m ∷ n ∷ []) ≡ emptyTable 1
   -- T at 0, 1, 64, 128, 256
   pub p7 : (quarterOf 0 ≡ 0) × (quarterOf 1 ≡ 51471) × (quarterOf 64 ≡ 3210683) × (quarterOf 128 ≡ 5934197) × (quarterOf 256 ≡ 8388608)
   -- phase 0.75 gaining 0.5 is 0.25

@@ -1,59 +1,66 @@
 -- Lists of calls on a voice, and what they feed the machine.
-use Prim.Native.Nat.{ℕ, zero, suc, _<_}
+use Prim.Native.Nat.{ℕ, _<_}
 use mathlib.Core.List.{List, [], _∷_, _++_}
 use lib.ListN.{length, getD, take}
 use lib.Dec.{T}
 use lib.Ieee.{Float, nan, binary32, fits}
-use Rattle.voice.specs.declared.input.Input.{Input}
 use Rattle.voice.specs.declared.voice.Voice.{Voice}
 use Rattle.voice.specs.Lists.{upTo}
-use Rattle.voice.specs.Input.{Gains, frequencyAt}
+use Rattle.voice.specs.Voice.{memoryAt}
+use Rattle.voice.specs.Input.{Call, frequencyAt}
 use Rattle.voice.specs.Question.{callQuestion, accepted}
-use Rattle.player.specs.Play.{played}
 use Rattle.voice.specs.Restart.{resetOf, reseedOf}
+use Rattle.player.specs.Play.{played}
+use Rattle.making.specs.Making.{Making}
 use Rattle.claim.specs.Machine.{Machine, Event, frequency, reset, seed}
 
--- a call holds its arguments but the voice: of a play the samples, the frequency input, the gains, the channels and the output slice
-pub data Call : Type 0 where
-  play : ℕ → Input → List Float → Gains → ℕ → List Float → Call
-  resetCall : Call
-  reseed : ℕ → Call
+-- what a voice is called with, all but the voice: of a play the arguments and the output slice, of a reseed the seed
+pub data VoiceCall : Type 0 where
+  playing : Call → List Float → VoiceCall
+  resetting : VoiceCall
+  reseeding : ℕ → VoiceCall
 
 -- the voice that a call returns, by the definitions that the contracts of play, reset and reseed cite
-unfoldable pub after : Voice → Call → Voice
-after v (play n freq fs g channels out) = played v n freq fs g channels (length out) .voice
-after v resetCall = resetOf v .voice
-after v (reseed n) = reseedOf v n .voice
+unfoldable pub after : Voice → VoiceCall → Voice
+after v (playing c out) = played v c (length out) .voice
+after v resetting = resetOf v .voice
+after v (reseeding n) = reseedOf v n .voice
 
 -- each call is handed the voice that the call before it returned
-unfoldable pub run : Voice → List Call → Voice
+unfoldable pub run : Voice → List VoiceCall → Voice
 run v [] = v
 run v (c ∷ cs) = run (after v c) cs
 
--- what a call gives the machine: of an accepted play the frequencies of channel 0, a reset, a seed. A refused play gives nothing; whether it is
--- refused goes by questions 14 to 16. No gain reaches the machine.
-unfoldable pub fedBy : Call → List Event
-fedBy (play n freq fs g channels out) = accepted (callQuestion n freq fs g channels (length out)) (upTo (λ i. frequency (frequencyAt freq fs n 0 i)) n) []
-fedBy resetCall = reset ∷ []
-fedBy (reseed n) = seed n ∷ []
+-- what a call gives the machine: of an accepted play the frequencies of channel 0, a reset, a seed. A refused play gives nothing; whether
+-- it is refused goes by questions 14 to 16. No gain reaches the machine.
+-- The making stands by because no voice does: a kind of call that is judged by what the voice was made of has to ask the making.
+-- None of these three does.
+unfoldable pub fedBy : Making → VoiceCall → List Event
+fedBy m (playing c out) = accepted (callQuestion c (length out)) (upTo (λ i. frequency (frequencyAt c 0 i)) (c .shape .samples)) []
+fedBy m resetting = reset ∷ []
+fedBy m (reseeding n) = seed n ∷ []
 
-unfoldable pub fed : List Call → List Event
-fed [] = []
-fed (c ∷ cs) = fedBy c ++ fed cs
+unfoldable pub fed : Making → List VoiceCall → List Event
+fed m [] = []
+fed m (c ∷ cs) = fedBy m c ++ fed m cs
 
 -- what of a voice's state is in use
 abbrev pub running : Voice → Machine
-running v = record { phases = take (v .m) (v .state .phases); memories = take (v .j) (v .state .memories); noise = v .state .rng .state }
+running v = record {
+  phases = take (v .set .m) (v .state .phases);
+  memories = upTo (memoryAt (v .state .memories)) (v .set .j);
+  noise = v .state .rng .state;
+}
 
 -- the floats of a slice, and of a call's frequency input, are f32 values
 abbrev pub AllF32 : List Float → Type 0
 AllF32 l = (i : ℕ) → i < length l → T (fits binary32 (getD l i nan))
 
-abbrev pub CallF32 : Call → Type 0
-CallF32 (play n freq fs g channels out) = AllF32 fs
-CallF32 resetCall = Unit
-CallF32 (reseed n) = Unit
+abbrev pub CallF32 : VoiceCall → Type 0
+CallF32 (playing c out) = AllF32 (c .freq)
+CallF32 resetting = Unit
+CallF32 (reseeding n) = Unit
 
-unfoldable pub CallsF32 : List Call → Type 0
+unfoldable pub CallsF32 : List VoiceCall → Type 0
 CallsF32 [] = Unit
 CallsF32 (c ∷ cs) = CallF32 c × CallsF32 cs

@@ -4,18 +4,19 @@ use mathlib.Core.Path.{_≡_}
 use mathlib.Core.Bool.{true}
 use mathlib.Core.List.{List}
 use lib.ListN.{getD}
-use lib.Ieee.{Float, nan, le, lt}
-use Rattle.table.specs.declared.desk.Kind.{Kind}
+use lib.Ieee.{nan, le, lt}
 use Rattle.voice.specs.declared.voice.Voice.{Voice}
 use Rattle.float.specs.F32.{nearest}
 use Rattle.voice.specs.Voice.{keepsRules}
-use Rattle.making.specs.Making.{makeOf}
+use Rattle.making.specs.Making.{Making, makeOf}
 use Rattle.claim.specs.Machine.{machine, plainOf}
-use Rattle.claim.specs.Calls.{Call, run, fed, running, CallsF32}
+use Rattle.claim.specs.Calls.{VoiceCall, run, fed, running, CallsF32}
 
 -- every phase is at least 0 and below 1
 abbrev pub PhasesIn : Voice → Type 0
-PhasesIn v = (i : ℕ) → i < v .m → (le (nearest 0 1) (getD (v .state .phases) i nan) ≡ true) × (lt (getD (v .state .phases) i nan) (nearest 1 1) ≡ true)
+PhasesIn v =
+    (i : ℕ) → i < v .set .m
+    → (le (nearest 0 1) (getD (v .state .phases) i nan) ≡ true) × (lt (getD (v .state .phases) i nan) (nearest 1 1) ≡ true)
 
 -- For every kind, image, rate and centres whose making is accepted, and every list of calls from the voice made, refused ones included
 -- (the frequencies being f32 values, as every slice of them is):
@@ -23,8 +24,8 @@ PhasesIn v = (i : ℕ) → i < v .m → (le (nearest 0 1) (getD (v .state .phase
 -- frequencies of the accepted plays, and question 13 is answered yes throughout.
 abbrev pub Claim : Type 0
 Claim =
-    (kind : Kind) (image : List ℕ) (rate : Float) (centres : List Float) (calls : List Call)
+    (m : Making) (calls : List VoiceCall)
     → CallsF32 calls
-    → makeOf kind image rate centres .refusal .number ≡ 0
-    → let v = run (makeOf kind image rate centres .voice) calls in
-    PhasesIn v × (running v ≡ machine (plainOf kind image rate centres) (fed calls)) × (keepsRules v ≡ true)
+    → makeOf m .refusal .number ≡ 0
+    → let v = run (makeOf m .voice) calls in
+    PhasesIn v × (running v ≡ machine (plainOf m) (fed m calls)) × (keepsRules v ≡ true)

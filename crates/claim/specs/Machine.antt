@@ -1,8 +1,8 @@
 -- The plain machine (document 01, module 6): phases, memories and the noise number, moved by frequencies, resets and seeds.
 -- It takes entries, rate and band coefficients from a making's arguments, never from a voice. Single and blend share it.
-use Prim.Native.Nat.{ℕ, zero, suc, _+_}
+use Prim.Native.Nat.{ℕ, _+_}
 use mathlib.Core.List.{List, [], _∷_, map}
-use mathlib.Core.Bool.{Bool, true, false, _||_}
+use mathlib.Core.Bool.{Bool, false, _||_}
 use lib.ListN.{length, replicate}
 use lib.Dec.{eqb}
 use lib.Ieee.{Float}
@@ -20,10 +20,10 @@ use Rattle.filters.specs.Biquad.{noiseBand, cleared, tickOf}
 use Rattle.voice.specs.Input.{cleaned}
 use Rattle.player.specs.Bracket.{bracketOf, sidesOf, between}
 use Rattle.player.specs.Sound.{unitVariance}
-use Rattle.voice.specs.Voice.{noCoeffs}
-use Rattle.making.specs.Making.{f32, voiceEntries, channelCount, phaseCount, liveBands}
+use Rattle.making.specs.Making.{f32, voiceEntries, channelCount, phaseCount, liveBands, Making}
 
--- what the machine takes from the making: the voice's entries by their pitches and stretches, the rate, how many phases, the bands, and which of them are live
+-- what the machine takes from the making: the voice's entries by their pitches and stretches, the rate, how many phases, the bands,
+-- and which of them are live
 pub record Plain : Type 0 where
   pub pitches : List Float
   pub stretches : List Float
@@ -42,8 +42,8 @@ plainFrom k es rate centres = record {
   live = liveBands k es (bandCount k es);
 }
 
-unfoldable pub plainOf : Kind → List ℕ → Float → List Float → Plain
-plainOf k image rate centres = plainFrom k (entriesOf (decode image)) rate centres
+unfoldable pub plainOf : Making → Plain
+plainOf m = plainFrom (m .kind) (entriesOf (decode (m .image))) (m .rate) (m .centres)
 
 -- exactly as many phases and memories as there are, and the noise number
 pub record Machine : Type 0 where
@@ -59,12 +59,16 @@ pub data Event : Type 0 where
 
 -- at first: all 0, and the noise number of the default seed
 abbrev pub startFrom : Plain → Machine
-startFrom x = record { phases = replicate (x .phases) (nearest 0 1); memories = replicate (length (x .bands)) cleared; noise = newRng defaultSeed .state }
+startFrom x = record {
+  phases = replicate (x .phases) (nearest 0 1);
+  memories = replicate (length (x .bands)) cleared;
+  noise = newRng defaultSeed .state;
+}
 
--- the phases of partials m, m + 1, ..: each gains its step and loses its whole part
-unfoldable pub gain : ℕ → Float → Float → Float → List Float → List Float
-gain m f0 stretch inv [] = []
-gain m f0 stretch inv (p ∷ ps) = advanceOf p (stepOf m f0 stretch inv) ∷ gain (m + 1) f0 stretch inv ps
+-- the phases of partials m, m + 1, ..: each advances by its step and loses its whole part
+unfoldable pub advanced : ℕ → Float → Float → Float → List Float → List Float
+advanced m f0 stretch inv [] = []
+advanced m f0 stretch inv (p ∷ ps) = advanceOf p (stepOf m f0 stretch inv) ∷ advanced (m + 1) f0 stretch inv ps
 
 -- whether a number is in a list
 unfoldable pub isIn : ℕ → List ℕ → Bool
@@ -73,8 +77,8 @@ isIn n (x ∷ l) = eqb n x || isIn n l
 
 -- the memories of bands b, b + 1, ..: the live ones tick
 unfoldable pub tick : ℕ → Float → List ℕ → List BiquadCoeffs → List BiquadState → List BiquadState
-tick b x live cs [] = []
-tick b x live [] (s ∷ ss) = pick (isIn b live) (tickOf s x noCoeffs .state) s ∷ tick (b + 1) x live [] ss
+tick b x live [] ss = ss
+tick b x live (c ∷ cs) [] = []
 tick b x live (c ∷ cs) (s ∷ ss) = pick (isIn b live) (tickOf s x c .state) s ∷ tick (b + 1) x live cs ss
 
 -- the stretch at a frequency
@@ -90,22 +94,32 @@ noiseNext (b ∷ live) n = stepped n
 abbrev pub atFrequency : List Float → Plain → Float → Machine → Machine
 atFrequency [] x f0 s = s
 atFrequency (p ∷ ps) x f0 s = record {
-  phases = gain 1 f0 (stretchOf x f0) (inverseOf (x .rate)) (s .phases);
+  phases = advanced 1 f0 (stretchOf x f0) (inverseOf (x .rate)) (s .phases);
   memories = tick 0 (bipolarOf (stepped (s .noise)) ⊗ unitVariance) (x .live) (x .bands) (s .memories);
   noise = noiseNext (x .live) (s .noise);
 }
 
+-- a machine beside what it takes. The two stand together because an event may change either: the events of today leave the source as it is,
+-- but a call that gives a voice another rate, or other entries, would be an event that answers another source.
+pub record Supplied : Type 0 where
+  pub source : Plain
+  pub state : Machine
+
+abbrev pub supplied : Plain → Machine → Supplied
+supplied x s = record { source = x; state = s }
+
 -- a frequency is cleaned first: non-finite, negative and -0 become 0. A reset zeroes phases and memories and returns to the default seed,
 -- whatever was reseeded. A seed is taken, zeroes the memories and keeps the phases.
-unfoldable pub move : Plain → Machine → Event → Machine
-move x s (frequency f) = atFrequency (x .pitches) x (cleaned f) s
-move x s reset = startFrom x
-move x s (seed n) = record { phases = s .phases; memories = replicate (length (x .bands)) cleared; noise = newRng n .state }
+unfoldable pub move : Plain → Machine → Event → Supplied
+move x s (frequency f) = supplied x (atFrequency (x .pitches) x (cleaned f) s)
+move x s reset = supplied x (startFrom x)
+move x s (seed n) = supplied x (record { phases = s .phases; memories = replicate (length (x .bands)) cleared; noise = newRng n .state })
 
-unfoldable pub machineFrom : Plain → Machine → List Event → Machine
-machineFrom x s [] = s
-machineFrom x s (e ∷ es) = machineFrom x (move x s e) es
+-- each event finds what the one before it left
+unfoldable pub machineFrom : Supplied → List Event → Supplied
+machineFrom y [] = y
+machineFrom y (e ∷ es) = machineFrom (move (y .source) (y .state) e) es
 
 -- the machine after some events from its start
 abbrev pub machine : Plain → List Event → Machine
-machine x es = machineFrom x (startFrom x) es
+machine x es = machineFrom (supplied x (startFrom x)) es .state

@@ -16,7 +16,7 @@ use Rattle.float.specs.F32.{_⊕_, nearest}
 use Rattle.float.proofs.Identities.{add-minus-zero}
 use Rattle.voice.specs.Lists.{Filled, FilledRows, mapTo, steps}
 use Rattle.filters.specs.Biquad.{tickOf}
-use Rattle.voice.specs.Voice.{noState}
+use Rattle.voice.specs.Voice.{memoryAt}
 use Rattle.player.specs.Columns.{added, heard, minusZero, stateOfColumns, coeffsOfRows, Memories, Ticked}
 use Rattle.filters.specs.declared.biquad.BiquadState.{BiquadState}
 use Rattle.filters.specs.declared.biquad.Tick.{Tick}
@@ -117,12 +117,12 @@ state-before z1 z2 l i x y h = rw (set-before z1 l i x h, set-before z2 l i y h)
 state-at : (z1 z2 : List Float) (l : ℕ) (x y : Float) → l < length z1 → l < length z2 → stateOfColumns (set z1 l x) (set z2 l y) l ≡ stateFrom x y
 state-at z1 z2 l x y h k = rw (set-at-place z1 l x h, set-at-place z2 l y k)
 
-pub memories-again : (z1 z2 : List Float) (ms : List BiquadState) (live : List ℕ) (l : ℕ) (m : BiquadState) → length z1 ≡ 32 → length z2 ≡ 32 → l < 32 → m ≡ getD ms (getD live l 0) noState → Memories z1 z2 ms live l
+pub memories-again : (z1 z2 : List Float) (ms : List Float) (live : List ℕ) (l : ℕ) (m : BiquadState) → length z1 ≡ 32 → length z2 ≡ 32 → l < 32 → m ≡ memoryAt ms (getD live l 0) → Memories z1 z2 ms live l
     → Memories (set z1 l (m .z1)) (set z2 l (m .z2)) ms live (l + 1)
 memories-again z1 z2 ms live l m h1 h2 h e M =
     record { at = one-more l (λ i a. M .at i a ∙ sym (state-before z1 z2 l i (m .z1) (m .z2) a)) (sym e ∙ sym (state-at z1 z2 l (m .z1) (m .z2) (omega arith) (omega arith))) }
 
-pub memories-full : (z1 z2 : List Float) (ms : List BiquadState) (live : List ℕ) (l n : ℕ) → l ≡ n → Memories z1 z2 ms live l → Memories z1 z2 ms live n
+pub memories-full : (z1 z2 : List Float) (ms : List Float) (live : List ℕ) (l n : ℕ) → l ≡ n → Memories z1 z2 ms live l → Memories z1 z2 ms live n
 memories-full z1 z2 ms live l n e M = rw e at M
 
 -- a turn of `tick_bands`: t is the tick of place l

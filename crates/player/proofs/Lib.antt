@@ -1,7 +1,6 @@
 pub mod Waves
 pub mod PhaseLaws
 pub mod ColumnLaws
-pub mod PartsLaws
 pub mod RangeLaws
 pub mod BracketLaws
 pub mod SoundLaws
@@ -11,3 +10,4 @@ pub mod ToneLaws
 pub mod TonePass
 pub mod NoisePass
 pub mod ChannelLaws
+pub mod PlayLaws

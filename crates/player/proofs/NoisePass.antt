@@ -12,10 +12,11 @@ use Rattle.float.specs.Range.{Within}
 use Rattle.voice.specs.Lists.{Filled, upTo, steps}
 use Rattle.voice.specs.Input.{cleaned}
 use Rattle.filters.specs.Rng.{nextBipolar}
-use Rattle.voice.specs.Voice.{keepsRules}
+use Rattle.voice.specs.Voice.{pitches, noiseGains, compensations}
+use Rattle.player.specs.Tuning.{NoiseTuned}
 use Rattle.player.specs.Sound.{sidesAt, noiseIn, movedMemories, movedRng, addNoiseSingle, addNoiseBlend, blendPower}
-use Rattle.player.specs.Passes.{rngAt, memoriesBefore, noisy, noisesOut}
-use Rattle.player.specs.Columns.{Memories, Coeffs, Ticked, stateOfColumns}
+use Rattle.player.specs.Passes.{LiveFit, rngAt, memoriesAt, noisy, noiseOut}
+use Rattle.player.specs.Columns.{Memories, Coeffs, Ticked, scattered}
 use Rattle.filters.specs.declared.biquad.BiquadState.{BiquadState}
 use Rattle.player.specs.declared.fixed.Fixed.{Fixed}
 use Rattle.filters.specs.declared.rng.Bipolar.{Bipolar}
@@ -25,62 +26,62 @@ use Rattle.voice.specs.declared.voice.Voice.{Voice}
 use Rattle.voice.proofs.Loops.{steps-again, upTo-read, upTo-again, upTo-full}
 use Rattle.player.proofs.SoundLaws.{FixedOf}
 use Rattle.player.proofs.ToneLaws.{NoiseTunedTo, noise-stays, untuned-none}
-use Rattle.player.proofs.BandColumns.{AgreeOff, agree-same, agree-moved, length-memories, memories-moved, filtered-at, scattered, sum-is-sample}
+use Rattle.player.proofs.BandColumns.{AgreeOff, agree-same, agree-moved, length-memories, memories-moved, filtered-at, scattered-is, sum-is-sample}
 
 pub rng-again : (v : Voice) (i : ℕ) (r s : Rng) → r ≡ rngAt v i → s ≡ movedRng v r → s ≡ rngAt v (i + 1)
 unfolding rngAt
 rng-again v i r s e q = q ∙ steps-again (λ t r. movedRng v r) (v .state .rng) r i e
 
-pub memories-again : (v : Voice) (i : ℕ) → movedMemories v (rngAt v i) (memoriesBefore v i) ≡ memoriesBefore v (i + 1)
-unfolding memoriesBefore
-memories-again v i = steps-again (λ t ms. movedMemories v (rngAt v t) ms) (v .state .memories) (memoriesBefore v i) i refl
+pub memories-again : (v : Voice) (i : ℕ) → movedMemories v (rngAt v i) (memoriesAt v i) ≡ memoriesAt v (i + 1)
+unfolding memoriesAt
+memories-again v i = steps-again (λ t ms. movedMemories v (rngAt v t) ms) (v .state .memories) (memoriesAt v i) i refl
 
 -- the samples: a turn of the loop reads one and writes it
 module _ (v : Voice) (freq : ℕ → Float) (g : ℕ → List Float) where
-  pub noises-first : (l : List Float) → l ≡ noisesOut v freq g l 0 ++ drop 0 l
-  unfolding noisesOut upTo
+  pub noises-first : (l : List Float) → l ≡ noiseOut v freq g l 0 ++ drop 0 l
+  unfolding noiseOut upTo
   noises-first l = refl
 
-  pub noises-again : (i : ℕ) (l ls : List Float) (y : Float) → i < length l → ls ≡ noisesOut v freq g l i ++ drop i l → y ≡ noisy v freq g i (getD ls i nan) → set ls i y ≡ noisesOut v freq g l (i + 1) ++ drop (i + 1) l
-  unfolding noisesOut
+  pub noises-again : (i : ℕ) (l ls : List Float) (y : Float) → i < length l → ls ≡ noiseOut v freq g l i ++ drop i l → y ≡ noisy v freq g i (getD ls i nan) → set ls i y ≡ noiseOut v freq g l (i + 1) ++ drop (i + 1) l
+  unfolding noiseOut
   noises-again i l ls y h e ey =
       ap (λ (z : Float). set ls i z) (ey ∙ ap (λ (z : Float). noisy v freq g i z) (upTo-read (λ i. noisy v freq g i (getD l i nan)) i l ls nan h e)) ∙ upTo-again (λ i. noisy v freq g i (getD l i nan)) i l ls h e
 
-  pub noises-full : (i n : ℕ) (l ls : List Float) → i ≡ n → length l ≡ n → ls ≡ noisesOut v freq g l i ++ drop i l → ls ≡ noisesOut v freq g l n
-  unfolding noisesOut
+  pub noises-full : (i n : ℕ) (l ls : List Float) → i ≡ n → length l ≡ n → ls ≡ noiseOut v freq g l i ++ drop i l → ls ≡ noiseOut v freq g l n
+  unfolding noiseOut
   noises-full i n l ls q h e = upTo-full (λ i. noisy v freq g i (getD l i nan)) i n l ls q h e
 
 module _ (v : Voice) (x : Fixed) where
   -- before sample i the columns hold the state of the definitions, and are tuned to every frequency that compares equal to t's
   pub record Noising (i : ℕ) (z1 z2 : List Float) (rng : Rng) (rows : List Float) (t : NoiseTuning) : Type 0 where
     pub rng-is : rng ≡ rngAt v i
-    pub memories-are : Memories z1 z2 (memoriesBefore v i) (v .live) (v .«live_count»)
-    pub long : length (memoriesBefore v i) ≡ 16
-    pub off : AgreeOff (memoriesBefore v i) (v .state .memories) (v .live) (v .«live_count»)
+    pub memories-are : Memories z1 z2 (memoriesAt v i) (v .set .live) (v .set .«live_count»)
+    pub long : length (memoriesAt v i) ≡ 32
+    pub off : AgreeOff (memoriesAt v i) (v .state .memories) (v .set .live) (v .set .«live_count»)
     pub tuned : (f : Float) → T (fits binary32 f) → Within 20000 1 f → eq f (t .f0) ≡ true → NoiseTunedTo v x f rows t
 
-module _ (v : Voice) (K : keepsRules v ≡ true) (x : Fixed) (X : (x .blend ≡ v .blend) × (x .k ≡ v .k)) (L : length (v .state .memories) ≡ 16) where
-  pub noising-first : (z1 z2 rows : List Float) (t : NoiseTuning) → Memories z1 z2 (v .state .memories) (v .live) (v .«live_count») → t .f0 ≡ nan → Noising v x 0 z1 z2 (v .state .rng) rows t
-  unfolding rngAt memoriesBefore steps
+module _ (v : Voice) (K : LiveFit (v .set)) (x : Fixed) (X : (x .blend ≡ v .set .blend) × (x .k ≡ v .set .k)) (L : length (v .state .memories) ≡ 32) where
+  pub noising-first : (z1 z2 rows : List Float) (t : NoiseTuning) → Memories z1 z2 (v .state .memories) (v .set .live) (v .set .«live_count») → t .f0 ≡ nan → Noising v x 0 z1 z2 (v .state .rng) rows t
+  unfolding rngAt memoriesAt steps
   noising-first z1 z2 rows t M e = record {
     rng-is = refl;
     memories-are = M;
     long = L;
-    off = agree-same (v .state .memories) (v .live) (v .«live_count»);
+    off = agree-same (v .state .memories) (v .set .live) (v .set .«live_count»);
     tuned = λ f F W q. absurd (untuned-none f (ap (λ (z : Float). eq f z) (sym e) ∙ q));
   }
 
   -- LAW: at the end the memories go back to their places
-  pub noising-last : (i n : ℕ) (z1 z2 : List Float) (rng : Rng) (rows : List Float) (t : NoiseTuning) (ms : List BiquadState) → i ≡ n → Noising v x i z1 z2 rng rows t
-      → ms ≡ steps (λ l ms. set ms (getD (v .live) l 0) (stateOfColumns z1 z2 l)) (v .state .memories) (v .«live_count») → (rng ≡ rngAt v n) × (ms ≡ memoriesBefore v n)
+  pub noising-last : (i n : ℕ) (z1 z2 : List Float) (rng : Rng) (rows : List Float) (t : NoiseTuning) (ms : List Float) → i ≡ n → Noising v x i z1 z2 rng rows t
+      → ms ≡ scattered (v .set .live) z1 z2 (v .state .memories) (v .set .«live_count») → (rng ≡ rngAt v n) × (ms ≡ memoriesAt v n)
   noising-last i n z1 z2 rng rows t ms q G e =
-      (G .rng-is ∙ ap (λ (z : ℕ). rngAt v z) q, e ∙ scattered v K z1 z2 (memoriesBefore v i) (v .state .memories) (G .long) L (G .off) (G .memories-are) ∙ ap (λ (z : ℕ). memoriesBefore v z) q)
+      (G .rng-is ∙ ap (λ (z : ℕ). rngAt v z) q, e ∙ scattered-is v K z1 z2 (memoriesAt v i) (v .state .memories) (G .long) L (G .off) (G .memories-are) ∙ ap (λ (z : ℕ). memoriesAt v z) q)
 
   -- one sample
   module _ (freq : ℕ → Float) (g : ℕ → List Float) (i : ℕ) (z1 z2 : List Float) (rng : Rng) (rows₀ : List Float) (t₀ : NoiseTuning) (G : Noising v x i z1 z2 rng rows₀ t₀)
       (f0 : Float) (ef : f0 ≡ cleaned (freq i)) (F : T (fits binary32 f0)) (W : Within 20000 1 f0) (rows : List Float) (t : NoiseTuning) (U : NoiseTunedTo v x f0 rows t)
-      (next : Bipolar) (en : (next .value ≡ noiseIn rng) × (next .rng ≡ pick (eqb (v .«live_count») 0) rng (nextBipolar rng .rng)))
-      (ys w1 w2 cs : List Float) (C : Coeffs cs (v .bands) (v .live) (v .«live_count»)) (K1 : Ticked ys w1 w2 z1 z2 cs (next .value) (v .«live_count»)) where
+      (next : Bipolar) (en : (next .value ≡ noiseIn rng) × (next .rng ≡ pick (eqb (v .set .«live_count») 0) rng (nextBipolar rng .rng)))
+      (ys w1 w2 cs : List Float) (C : Coeffs cs (v .lists) (v .set .live) (v .set .«live_count»)) (K1 : Ticked ys w1 w2 z1 z2 cs (next .value) (v .set .«live_count»)) where
     heard-noise : next .value ≡ noiseIn (rngAt v i)
     heard-noise = en .0 ∙ ap (λ (z : Rng). noiseIn z) (G .rng-is)
 
@@ -89,24 +90,37 @@ module _ (v : Voice) (K : keepsRules v ≡ true) (x : Fixed) (X : (x .blend ≡ 
     unfolding movedRng
     noising-again = record {
       rng-is = rng-again v i rng (next .rng) (G .rng-is) (en .1);
-      memories-are = subst (λ (ms : List BiquadState). Memories w1 w2 ms (v .live) (v .«live_count»)) (memories-again v i) (memories-moved v K (rngAt v i) (memoriesBefore v i) (next .value) ys w1 w2 z1 z2 cs heard-noise (G .memories-are) C K1 (G .long));
-      long = ap (λ (ms : List BiquadState). length ms) (sym (memories-again v i)) ∙ length-memories v K (rngAt v i) (memoriesBefore v i) ∙ G .long;
-      off = subst (λ (ms : List BiquadState). AgreeOff ms (v .state .memories) (v .live) (v .«live_count»)) (memories-again v i) (agree-moved v K (rngAt v i) (memoriesBefore v i) (v .state .memories) (G .off));
+      memories-are = subst (λ (ms : List Float). Memories w1 w2 ms (v .set .live) (v .set .«live_count»)) (memories-again v i) (memories-moved v K (rngAt v i) (memoriesAt v i) (next .value) ys w1 w2 z1 z2 cs heard-noise (G .memories-are) C K1 (G .long));
+      long = ap (λ (ms : List Float). length ms) (sym (memories-again v i)) ∙ length-memories v K (rngAt v i) (memoriesAt v i) ∙ G .long;
+      off = subst (λ (ms : List Float). AgreeOff ms (v .state .memories) (v .set .live) (v .set .«live_count»)) (memories-again v i) (agree-moved v K (rngAt v i) (memoriesAt v i) (v .state .memories) (G .off));
       tuned = noise-stays v x rows t f0 F W U;
     }
 
     -- LAW: what is stored is the sample
-    pub noisy-sounds : (h makeup : List Float) (tone y : Float) → h ≡ g i → Filled makeup (λ l. getD (v .compensation) (getD (v .live) l 0) nan) (v .«live_count»)
-        → y ≡ steps (λ l y. pick (eqb (v .blend) 0) (addNoiseSingle y (getD rows l nan) (getD h 0 nan) (t .«noise_gain») (getD makeup l nan) (getD ys l nan)) (addNoiseBlend y (blendPower (λ q. getD rows (q * 32 + l) nan) h (v .k)) (t .«noise_gain») (getD makeup l nan) (getD ys l nan))) tone (v .«live_count»)
+    pub noisy-sounds : (h makeup : List Float) (tone y : Float) → h ≡ g i → Filled makeup (λ l. getD (compensations v) (getD (v .set .live) l 0) nan) (v .set .«live_count»)
+        → y ≡ steps (λ l y. pick (eqb (v .set .blend) 0) (addNoiseSingle y (getD rows l nan) (getD h 0 nan) (t .«noise_gain») (getD makeup l nan) (getD ys l nan)) (addNoiseBlend y (blendPower (λ q. getD rows (q * 32 + l) nan) h (v .set .k)) (t .«noise_gain») (getD makeup l nan) (getD ys l nan))) tone (v .set .«live_count»)
         → y ≡ noisy v freq g i tone
     unfolding sidesAt noisy
     noisy-sounds h makeup tone y eh M ey =
-        sum-is-sample v K (rngAt v i) (memoriesBefore v i) f0 h (sidesAt v f0) (v .blend) (v .k) (v .«live_count») (t .«noise_gain») rows makeup ys (pick (eqb (v .blend) 0) 1 (v .k)) refl refl refl refl (U .noise-gain) one-row (λ b. all-rows b) (rw (← X .0, ← X .1) (U .rows-are)) M
-        (filtered-at v K (rngAt v i) (memoriesBefore v i) (next .value) ys w1 w2 z1 z2 cs heard-noise (G .memories-are) C K1) tone y ey
+        sum-is-sample v K (rngAt v i) (memoriesAt v i) f0 h (sidesAt v f0) (v .set .blend) (v .set .k) (v .set .«live_count») (t .«noise_gain») rows makeup ys (pick (eqb (v .set .blend) 0) 1 (v .set .k)) refl refl refl refl (U .noise-gain) one-row (λ b. all-rows b) (rw (← X .0, ← X .1) (U .rows-are)) M
+        (filtered-at v K (rngAt v i) (memoriesAt v i) (next .value) ys w1 w2 z1 z2 cs heard-noise (G .memories-are) C K1) tone y ey
         ∙ rw (ef, eh)
       where
-        one-row : eqb (v .blend) 0 ≡ true → 0 < pick (eqb (v .blend) 0) 1 (v .k)
+        one-row : eqb (v .set .blend) 0 ≡ true → 0 < pick (eqb (v .set .blend) 0) 1 (v .set .k)
         one-row b = rw b (omega arith)
 
-        all-rows : eqb (v .blend) 0 ≡ false → v .k ≤ pick (eqb (v .blend) 0) 1 (v .k)
+        all-rows : eqb (v .set .blend) 0 ≡ false → v .set .k ≤ pick (eqb (v .set .blend) 0) 1 (v .set .k)
         all-rows b = rw b (omega arith)
+
+-- ---- the lists that the pass copies out of a voice's
+module _ (v : Voice) (a b : List Float) (ea : a ≡ pitches v) (eb : b ≡ noiseGains v) where
+  pub noise-tuned-of : (x : Fixed) (f0 : Float) (rows : List Float) (t : NoiseTuning) → NoiseTuned x (v .set .count) (v .set .«live_count») a b (v .noise) (v .set .live) f0 rows t → NoiseTunedTo v x f0 rows t
+  noise-tuned-of x f0 rows t U = rw (ea, eb) at U
+
+  pub of-noise-tuned : (x : Fixed) (f0 : Float) (rows : List Float) (t : NoiseTuning) → NoiseTunedTo v x f0 rows t → NoiseTuned x (v .set .count) (v .set .«live_count») a b (v .noise) (v .set .live) f0 rows t
+  of-noise-tuned x f0 rows t U = rw (ea, eb) U
+
+-- the compensations of the live bands
+pub makeup-of : (v : Voice) (a makeup : List Float) → a ≡ compensations v → Filled makeup (λ l. getD a (getD (v .set .live) l 0) nan) (v .set .«live_count»)
+    → Filled makeup (λ l. getD (compensations v) (getD (v .set .live) l 0) nan) (v .set .«live_count»)
+makeup-of v a makeup e M = rw e at M

@@ -1,10 +1,13 @@
 -- The parts of a sample as the loops work them out, put together to `sound` and `moved`; what a sample keeps of the voice rules.
 use mathlib.Core.Path.{_≡_, refl, sym, ap, _∙_}
 use mathlib.Core.List.{List, [], _∷_, _++_}
-use mathlib.Core.Bool.{Bool, true, false, cond, _&&_}
+use mathlib.Core.Bool.{Bool, true, false, cond, _&&_, _||_}
 use Prim.Native.Nat.{ℕ, zero, suc, _+_, _-_, _*_, _%_, _≤_, _<_}
 use native.Mathlib.Omega.{arith}
-use lib.ListN.{length, getD, set, drop}
+use lib.ListN.{length, getD, take, drop, List·getD-eq-default, length-take}
+use lib.Seq.{getD-take, getD-drop}
+use mathlib.Core.Logic.{⊎-elim}
+use Rattle.float.proofs.Bounds.{le-or-lt}
 use lib.Dec.{eqb, ltb, lit≤}
 use lib.Ieee.{Float, nan, inf, fin, round, le, lt, eq}
 use borrow.Author.Tests.{ltb-true, not-true}
@@ -19,36 +22,31 @@ use Rattle.player.specs.Phase.{advanceOf, inverseOf, partialFreq, stepOf
 use Rattle.player.specs.Fade.{nyquistFade}
 use Rattle.filters.specs.Biquad.{tickOf}
 use Rattle.filters.specs.Rng.{nextBipolar}
-use Rattle.voice.specs.Input.{inputAt, frequencyAt, frequencyOk, frequenciesOk, InputFits, cleaned}
+use Rattle.voice.specs.Input.{partOf, frequencyOf, frequencyOk, frequenciesOk, cleaned}
+use Rattle.player.specs.Passes.{EntriesFit, VoiceFits, FrequenciesFit}
 use Rattle.player.specs.Bracket.{SidesIn, between}
-use Rattle.voice.specs.Voice.{phaseOk, pitchOk, stretchOk, phasesOk, countsOk, entriesOk, liveOk, pitchesAscend, bandsAscend, keepsRules, noCoeffs, noState}
-use Rattle.player.specs.Sound.{sidesAt, partialRow, noiseRow, movedPhases, addSingle, addBlend, blendCoeff, partialTerm, partialSum, noiseIn, movedRng, Mix, addNoiseSingle, addNoiseBlend, blendPower, noiseTerm, bandStep, mixed, mixAt, sound, movedMemories, moved}
+use Rattle.voice.specs.Voice.{phaseOk, pitchOk, stretchOk, phasesOk, countsOk, entriesOk, liveOk, pitchesAscend, bandsAscend, keepsRules, pitches, stretches}
+use Rattle.player.specs.Sound.{sidesAt, partialRow, noiseRow, movedPhases, addSingle, addBlend, blendCoeff, sound, moved}
 use Rattle.player.specs.Block.{stateAt, channelOut}
 use Rattle.player.specs.declared.bracket.Sides.{Sides}
 use Rattle.filters.specs.declared.biquad.BiquadState.{BiquadState}
 use Rattle.filters.specs.declared.biquad.Tick.{Tick}
 use Rattle.player.specs.declared.fixed.Fixed.{Fixed}
-use Rattle.voice.specs.declared.input.Input.{Input}
+use Rattle.voice.specs.declared.voice.Setting.{Setting}
 use Rattle.player.specs.declared.pitch.Pitch.{Pitch}
 use Rattle.filters.specs.declared.rng.Rng.{Rng}
 use Rattle.voice.specs.declared.voice.State.{State}
 use Rattle.voice.specs.declared.voice.Voice.{Voice}
-use Rattle.voice.proofs.Loops.{both-true, every-at, at-every, mapTo-at, steps-again, steps-same, upTo-again, upTo-full, length-upTo, input-index}
+use Rattle.voice.proofs.Loops.{both-true, every-at, at-every, mapTo-at, steps-again, steps-same, upTo-again, upTo-full, length-upTo, read-any}
 use Rattle.voice.proofs.QuestionLaws.{kept, counts-are}
 use Rattle.player.proofs.PhaseLaws.{inverse-within}
 use Rattle.player.proofs.RangeLaws.{hold, advance-ok, phase-passes, step-small}
 use Rattle.filters.proofs.Tests.{rate-is}
 
-abbrev pub stateOf : List Float → List BiquadState → Rng → State
-stateOf ps ms r = record { phases = ps; memories = ms; rng = r }
-
-abbrev pub mixOf : List BiquadState → Float → Mix
-mixOf ms y = record { memories = ms; sample = y }
-
 -- ---- one sample
 -- what `fixed_of` hands over is the voice's
 abbrev pub FixedOf : Voice → Fixed → Type 0
-FixedOf v x = (x .blend ≡ v .blend) × (x .k ≡ v .k) × (x .m ≡ v .m) × (x .inv ≡ inverseOf (v .«sample_rate»)) × (x .nyquist ≡ v .«sample_rate» ⊗ nearest 1 2)
+FixedOf v x = (x .blend ≡ v .set .blend) × (x .k ≡ v .set .k) × (x .m ≡ v .set .m) × (x .inv ≡ inverseOf (v .set .«sample_rate»)) × (x .nyquist ≡ v .set .«sample_rate» ⊗ nearest 1 2)
 
 -- ---- a channel
 module _ (v : Voice) (freq : ℕ → Float) (g : ℕ → List Float) where
@@ -57,11 +55,11 @@ module _ (v : Voice) (freq : ℕ → Float) (g : ℕ → List Float) where
   length-channel n = length-upTo (λ i. sound v (stateAt v freq i) (cleaned (freq i)) (g i)) n
 
   -- a voice with no entry does not move, and is silent
-  pub still : (n : ℕ) → eqb (v .count) 0 ≡ true → v .state ≡ stateAt v freq n
+  pub still : (n : ℕ) → eqb (v .set .count) 0 ≡ true → v .state ≡ stateAt v freq n
   unfolding stateAt moved
   still n C = rw C (sym (steps-same (v .state) n))
 
-  pub silent : (n : ℕ) → eqb (v .count) 0 ≡ true → upTo (λ i. nearest 0 1) n ≡ channelOut v freq g n
+  pub silent : (n : ℕ) → eqb (v .set .count) 0 ≡ true → upTo (λ i. nearest 0 1) n ≡ channelOut v freq g n
   unfolding channelOut sound
   silent n C = rw C
 
@@ -93,41 +91,58 @@ cleaned-within (fin false m e) h = go (lt (nearest 0 1) (fin false m e))
     go true = record { plain-is = tt; upper = le→cross (fin false m e) (nearest 20000 1) tt tt (not-lt (nearest 20000 1) (fin false m e) tt tt (not-true (lt (nearest 20000 1) (fin false m e)) h)) }
     go false = record { plain-is = tt; upper = lit≤ tt }
 
-pub frequency-passes : (freq : Input) (fs : List Float) (n ch i : ℕ) → InputFits freq n (length fs) → frequenciesOk freq fs ≡ true → i < n → frequencyOk (frequencyAt freq fs n ch i) ≡ true
-unfolding inputAt frequenciesOk round lt
-frequency-passes Input.Unconnected fs n ch i F h l = refl
-frequency-passes (Input.Channels k) fs n ch i F h l = every-at (λ i. frequencyOk (getD fs i nan)) (length fs) ((ch % k) * n + i) h (input-index (Input.Channels k) k n (length fs) ch i refl F l .1)
-
--- what a voice that keeps the rules has
-pub record Facts (v : Voice) : Type 0 where
-  pub sizes : (v .count ≤ 16) × (v .m ≤ 32) × (v .j ≤ 16) × (v .k ≤ 4) × (v .«live_count» ≤ 16)
-  pub pitches : every (λ i. pitchOk (getD (v .«f0_hz») i nan)) (v .count) ≡ true
-  pub stretches : every (λ i. stretchOk (getD (v .stretch) i nan)) (v .count) ≡ true
-  pub rate : Rate (v .«sample_rate»)
-  pub live : every (λ i. ltb (getD (v .live) i 0) (v .j)) (v .«live_count») ≡ true
-  pub phases : phasesOk (v .state .phases) (v .m) ≡ true
-
-pub facts : (v : Voice) → keepsRules v ≡ true → Facts v
+-- what a voice that keeps the rules has, as playing needs it
+pub voice-fits : (v : Voice) → keepsRules v ≡ true → VoiceFits (v .set) (v .lists) (v .state .phases)
 unfolding countsOk entriesOk liveOk
-facts v h =
+voice-fits v h =
+    let s = v .set in
     let k = kept v h in
-    let e = both-true (every (λ i. pitchOk (getD (v .«f0_hz») i nan)) (v .count)) (pitchesAscend (v .«f0_hz») (v .count) && every (λ i. stretchOk (getD (v .stretch) i nan)) (v .count)) (k .entries) in
-    let r = both-true (le (nearest 8000 1) (v .«sample_rate»)) (le (v .«sample_rate») (nearest 192000 1)) (k .rate) in
+    let sizes = counts-are (s .count) (s .m) (s .j) (s .k) (s .«live_count») (k .counts) in
+    let e = both-true (every (λ i. pitchOk (getD (pitches v) i nan)) (s .count)) (pitchesAscend (pitches v) (s .count) && every (λ i. stretchOk (getD (stretches v) i nan)) (s .count)) (k .entries) in
+    let r = both-true (le (nearest 8000 1) (s .«sample_rate»)) (le (s .«sample_rate») (nearest 192000 1)) (k .rate) in
+    let l = both-true (every (λ i. ltb (getD (s .live) i 0) (s .j)) (s .«live_count»)) (bandsAscend (s .live) (s .«live_count»)) (k .live) in
     record {
-      sizes = counts-are (v .count) (v .m) (v .j) (v .k) (v .«live_count») (k .counts);
-      pitches = e .0;
-      stretches = both-true (pitchesAscend (v .«f0_hz») (v .count)) (every (λ i. stretchOk (getD (v .stretch) i nan)) (v .count)) (e .1) .1;
-      rate = rate-is (v .«sample_rate») (hold _ (r .0)) (hold _ (r .1));
-      live = both-true (every (λ i. ltb (getD (v .live) i 0) (v .j)) (v .«live_count»)) (bandsAscend (v .live) (v .«live_count»)) (k .live) .0;
-      phases = k .phases;
+      entries = record {
+        sizes = (sizes .0, sizes .1, sizes .3);
+        pitches-ok = e .0;
+        stretches-ok = both-true (pitchesAscend (pitches v) (s .count)) (every (λ i. stretchOk (getD (stretches v) i nan)) (s .count)) (e .1) .1;
+        rate = rate-is (s .«sample_rate») (hold _ (r .0)) (hold _ (r .1));
+      };
+      live-bands = record {
+        most = sizes .4;
+        inside = record { below = λ i a. let b : getD (s .live) i 0 < s .j = ltb-true _ _ (every-at (λ i. ltb (getD (s .live) i 0) (s .j)) (s .«live_count») i (l .0) a) in omega (arith, sizes) };
+        ascend = l .1;
+      };
+      phases-ok = k .phases;
     }
+
+-- what a channel reads is as question 16 found it
+default-ok : frequencyOk (nearest 220 1) ≡ true
+unfolding round lt
+default-ok = refl
+
+-- an element of a part is one of the list, or what stands past the end
+part-ok : (s : List Float) (a n i : ℕ) → ((j : ℕ) → j < length s → frequencyOk (getD s j nan) ≡ true) → frequencyOk (frequencyOf (take n (drop a s)) i) ≡ true
+part-ok s a n i h =
+    let d = nearest 220 1 in
+    ⊎-elim (λ (q : n ≤ i). let m : length (take n (drop a s)) ≤ i = rw length-take (omega arith) in rw (List·getD-eq-default (take n (drop a s)) d m) default-ok)
+    (λ (q : i < n).
+    ⊎-elim (λ (p : length s ≤ a + i). rw (getD-take n (drop a s) i d q, getD-drop a s i d, List·getD-eq-default s d p) default-ok)
+    (λ (p : a + i < length s). rw (getD-take n (drop a s) i d q, getD-drop a s i d, read-any s (a + i) d nan p) (h (a + i) p))
+    (le-or-lt (length s) (a + i)))
+    (le-or-lt n i)
+
+-- LAW: every frequency that a channel reads is as question 16 asks
+pub frequencies-fit : (k n ch : ℕ) (s : List Float) → frequenciesOk k s ≡ true → FrequenciesFit (partOf k s n ch)
+unfolding partOf
+frequencies-fit k n ch s h i = go (eqb k 0) h
+  where
+    go : (z : Bool) → z || every (λ i. frequencyOk (getD s i nan)) (length s) ≡ true → frequencyOk (frequencyOf (cond z [] (take n (drop ((ch % k) * n) s))) i) ≡ true
+    go true e = default-ok
+    go false e = part-ok s ((ch % k) * n) n i (λ j l. every-at (λ i. frequencyOk (getD s i nan)) (length s) j e l)
 
 pub sides-wide : (n : ℕ) (s : Sides) → n ≤ 16 → SidesIn n s → SidesIn 16 s
 sides-wide n s h k = record { low = omega (arith, k .low); high = omega (arith, k .high) }
 
--- a live band is one of at most 16
-pub live-below : (v : Voice) (l : ℕ) → Facts v → l < v .«live_count» → getD (v .live) l 0 < 16
-live-below v l F h = let b : getD (v .live) l 0 < v .j = ltb-true _ _ (every-at (λ i. ltb (getD (v .live) i 0) (v .j)) (v .«live_count») l (F .live) h) in omega (arith, F .sizes)
-
-pub inverse-small : (v : Voice) → Facts v → Within 1 4096 (inverseOf (v .«sample_rate»))
-inverse-small v F = inverse-within (v .«sample_rate») (F .rate)
+pub inverse-small : (s : Setting) (lists : List Float) → EntriesFit s lists → Within 1 4096 (inverseOf (s .«sample_rate»))
+inverse-small s lists F = inverse-within (s .«sample_rate») (F .rate)

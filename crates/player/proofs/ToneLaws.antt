@@ -15,7 +15,7 @@ use Rattle.voice.specs.Lists.{Filled, FilledRows, mapTo, steps, every}
 use Rattle.filters.specs.Wave.{sineOf}
 use Rattle.player.specs.Phase.{AllPhases, AllSteps, Phase, Step, advanceOf, partialFreq, stepOf}
 use Rattle.player.specs.Fade.{nyquistFade}
-use Rattle.voice.specs.Voice.{phaseOk, phasesOk}
+use Rattle.voice.specs.Voice.{phaseOk, phasesOk, pitches, stretches, mainlobes, noiseGains}
 use Rattle.player.specs.Sound.{sidesAt, stepAt, fadeAt, partialRow, noiseRow, movedPhases, addSingle, addBlend, blendCoeff, partialTerm, partialSum}
 use Rattle.player.specs.Bracket.{bracketOf, sidesOf, between}
 use Rattle.player.specs.Columns.{added}
@@ -41,15 +41,15 @@ mapped-same f g k (suc n) (x ∷ l) h =
 
 -- the partials' columns of a voice at the frequency f0
 pub record TunedVoice (v : Voice) (f0 : Float) (incs fades rows : List Float) (t : Tuning) : Type 0 where
-  pub mainlobe : t .mainlobe ≡ between (v .«mainlobe_gain») (sidesAt v f0)
-  pub safe : AllSteps incs (v .m)
-  pub small : t .small ≡ every (λ i. le (getD incs i nan) (nearest 31 32)) (v .m)
-  pub steps-are : Filled incs (λ i. stepAt v f0 i) (v .m)
-  pub fading : Filled fades (λ i. fadeAt v f0 i) (v .m)
-  pub rows-are : FilledRows rows (λ q i. partialRow (v .partials) (sidesAt v f0) q i) (pick (eqb (v .blend) 0) 1 (v .k)) (v .m)
+  pub mainlobe : t .mainlobe ≡ between (mainlobes v) (sidesAt v f0)
+  pub safe : AllSteps incs (v .set .m)
+  pub small : t .small ≡ every (λ i. le (getD incs i nan) (nearest 31 32)) (v .set .m)
+  pub steps-are : Filled incs (λ i. stepAt v f0 i) (v .set .m)
+  pub fading : Filled fades (λ i. fadeAt v f0 i) (v .set .m)
+  pub rows-are : FilledRows rows (λ q i. partialRow (v .partials) (sidesAt v f0) q i) (pick (eqb (v .set .blend) 0) 1 (v .set .k)) (v .set .m)
 
 abbrev pub TunedTo : Voice → Fixed → Float → List Float → List Float → List Float → Tuning → Type 0
-TunedTo v x f0 incs fades rows t = Tuned x (v .count) (v .«f0_hz») (v .stretch) (v .«mainlobe_gain») (v .partials) f0 incs fades rows t
+TunedTo v x f0 incs fades rows t = Tuned x (v .set .count) (pitches v) (stretches v) (mainlobes v) (v .partials) f0 incs fades rows t
 
 module _ (v : Voice) (x : Fixed) (X : FixedOf v x) (incs fades rows : List Float) (t : Tuning) where
   pub tuned-voice : (f0 : Float) → TunedTo v x f0 incs fades rows t → TunedVoice v f0 incs fades rows t
@@ -71,7 +71,7 @@ module _ (v : Voice) (x : Fixed) (X : FixedOf v x) (incs fades rows : List Float
 
 -- the live bands' columns, in the same way
 abbrev pub NoiseTunedTo : Voice → Fixed → Float → List Float → NoiseTuning → Type 0
-NoiseTunedTo v x f0 rows t = NoiseTuned x (v .count) (v .«live_count») (v .«f0_hz») (v .«noise_gain») (v .noise) (v .live) f0 rows t
+NoiseTunedTo v x f0 rows t = NoiseTuned x (v .set .count) (v .set .«live_count») (pitches v) (noiseGains v) (v .noise) (v .set .live) f0 rows t
 
 pub noise-stays : (v : Voice) (x : Fixed) (rows : List Float) (t : NoiseTuning) (f0 : Float) → T (fits binary32 f0) → Within 20000 1 f0 → NoiseTunedTo v x f0 rows t
     → (g : Float) → T (fits binary32 g) → Within 20000 1 g → eq g (t .f0) ≡ true → NoiseTunedTo v x g rows t
@@ -85,37 +85,37 @@ untuned-none nan e = subst T (sym e) tt
 untuned-none (inf s) e = subst T (sym e) tt
 untuned-none (fin s m d) e = subst T (sym e) tt
 
-module _ (v : Voice) (f0 : Float) (incs fades rows : List Float) (t : Tuning) (T : TunedVoice v f0 incs fades rows t) (ps qs : List Float) (P : phasesOk ps (v .m) ≡ true)
-    (Q : qs ≡ mapTo (λ i p. advanceOf p (getD incs i nan)) 0 (v .m) ps) where
+module _ (v : Voice) (f0 : Float) (incs fades rows : List Float) (t : Tuning) (T : TunedVoice v f0 incs fades rows t) (ps qs : List Float) (P : phasesOk ps (v .set .m) ≡ true)
+    (Q : qs ≡ mapTo (λ i p. advanceOf p (getD incs i nan)) 0 (v .set .m) ps) where
   pub moved-phases : qs ≡ movedPhases v f0 ps
   unfolding movedPhases
-  moved-phases = Q ∙ mapped-same _ _ 0 (v .m) ps (λ i p a b. ap (λ (z : Float). advanceOf p z) (T .steps-are .at i (omega arith)))
+  moved-phases = Q ∙ mapped-same _ _ 0 (v .set .m) ps (λ i p a b. ap (λ (z : Float). advanceOf p z) (T .steps-are .at i (omega arith)))
 
   -- each phase after the step
-  at-phase : (i : ℕ) → i < v .m → getD qs i nan ≡ advanceOf (getD ps i nan) (stepAt v f0 i)
+  at-phase : (i : ℕ) → i < v .set .m → getD qs i nan ≡ advanceOf (getD ps i nan) (stepAt v f0 i)
   at-phase i l =
-      ap (λ (z : List Float). getD z i nan) Q ∙ mapTo-at (λ i p. advanceOf p (getD incs i nan)) nan (v .m) i ps l (phase-inside ps (v .m) i P l)
+      ap (λ (z : List Float). getD z i nan) Q ∙ mapTo-at (λ i p. advanceOf p (getD incs i nan)) nan (v .set .m) i ps l (phase-inside ps (v .set .m) i P l)
       ∙ ap (λ (z : Float). advanceOf (getD ps i nan) z) (T .steps-are .at i l)
 
-  step-phase : (i : ℕ) → i < v .m → Phase (getD qs i nan)
+  step-phase : (i : ℕ) → i < v .set .m → Phase (getD qs i nan)
   unfolding phasesOk
   step-phase i l =
-      subst (λ (z : Float). Phase z) (sym (ap (λ (z : List Float). getD z i nan) Q ∙ mapTo-at (λ i p. advanceOf p (getD incs i nan)) nan (v .m) i ps l (phase-inside ps (v .m) i P l)))
-      (advance-ok (getD ps i nan) (getD incs i nan) (every-at (λ i. phaseOk (getD ps i nan)) (v .m) i P l) (T .safe .at i l))
+      subst (λ (z : Float). Phase z) (sym (ap (λ (z : List Float). getD z i nan) Q ∙ mapTo-at (λ i p. advanceOf p (getD incs i nan)) nan (v .set .m) i ps l (phase-inside ps (v .set .m) i P l)))
+      (advance-ok (getD ps i nan) (getD incs i nan) (every-at (λ i. phaseOk (getD ps i nan)) (v .set .m) i P l) (T .safe .at i l))
 
-  pub all-phases : AllPhases qs (v .m)
+  pub all-phases : AllPhases qs (v .set .m)
   all-phases = record { at = step-phase }
 
-  pub phases-kept : phasesOk qs (v .m) ≡ true
+  pub phases-kept : phasesOk qs (v .set .m) ≡ true
   unfolding phasesOk
-  phases-kept = at-every (λ i. phaseOk (getD qs i nan)) (v .m) (λ i l. phase-passes (getD qs i nan) (step-phase i l))
+  phases-kept = at-every (λ i. phaseOk (getD qs i nan)) (v .set .m) (λ i l. phase-passes (getD qs i nan) (step-phase i l))
 
-  module _ (g sines : List Float) (S : Filled sines (λ i. sineOf (getD qs i nan)) (v .m)) where
-    sine-at : (i : ℕ) → i < v .m → getD sines i nan ≡ sineOf (advanceOf (getD ps i nan) (stepAt v f0 i))
+  module _ (g sines : List Float) (S : Filled sines (λ i. sineOf (getD qs i nan)) (v .set .m)) where
+    sine-at : (i : ℕ) → i < v .set .m → getD sines i nan ≡ sineOf (advanceOf (getD ps i nan) (stepAt v f0 i))
     sine-at i l = S .at i l ∙ ap (λ (z : Float). sineOf z) (at-phase i l)
 
     abbrev C : ℕ → Float
-    C i = blendCoeff (λ q. getD rows (q * 32 + i) nan) g (v .k)
+    C i = blendCoeff (λ q. getD rows (q * 32 + i) nan) g (v .set .k)
 
     abbrev term : Bool → ℕ → Float → Float
     term b i y =
@@ -123,30 +123,30 @@ module _ (v : Voice) (f0 : Float) (incs fades rows : List Float) (t : Tuning) (T
         (added y (C i) (C i ⊗ t .mainlobe ⊗ getD fades i nan ⊗ getD sines i nan))
 
     -- the coefficient of a partial of a single voice
-    first-row : (i : ℕ) → eqb (v .blend) 0 ≡ true → i < v .m → getD rows i nan ≡ partialRow (v .partials) (sidesAt v f0) 0 i
+    first-row : (i : ℕ) → eqb (v .set .blend) 0 ≡ true → i < v .set .m → getD rows i nan ≡ partialRow (v .partials) (sidesAt v f0) 0 i
     first-row i b l =
-        let R : FilledRows rows (λ q i. partialRow (v .partials) (sidesAt v f0) q i) 1 (v .m) = subst (λ (z : Bool). FilledRows rows (λ q i. partialRow (v .partials) (sidesAt v f0) q i) (pick z 1 (v .k)) (v .m)) b (T .rows-are) in
+        let R : FilledRows rows (λ q i. partialRow (v .partials) (sidesAt v f0) q i) 1 (v .set .m) = subst (λ (z : Bool). FilledRows rows (λ q i. partialRow (v .partials) (sidesAt v f0) q i) (pick z 1 (v .set .k)) (v .set .m)) b (T .rows-are) in
         ap (λ (z : ℕ). getD rows z nan) (sym (nothing i)) ∙ R .at 0 i (omega arith) l
       where
         nothing : (i : ℕ) → 0 * 32 + i ≡ i
         nothing i = omega arith
 
     -- and of a blend
-    blended : (i : ℕ) → eqb (v .blend) 0 ≡ false → i < v .m → C i ≡ blendCoeff (λ q. partialRow (v .partials) (sidesAt v f0) q i) g (v .k)
+    blended : (i : ℕ) → eqb (v .set .blend) 0 ≡ false → i < v .set .m → C i ≡ blendCoeff (λ q. partialRow (v .partials) (sidesAt v f0) q i) g (v .set .k)
     unfolding blendCoeff
     blended i b l =
-        let R : FilledRows rows (λ q i. partialRow (v .partials) (sidesAt v f0) q i) (v .k) (v .m) = subst (λ (z : Bool). FilledRows rows (λ q i. partialRow (v .partials) (sidesAt v f0) q i) (pick z 1 (v .k)) (v .m)) b (T .rows-are) in
-        steps-as _ _ (nearest 0 1) (v .k) (λ q h y. ap (λ (z : Float). y ⊕ getD g q nan ⊗ z) (R .at q i h l))
+        let R : FilledRows rows (λ q i. partialRow (v .partials) (sidesAt v f0) q i) (v .set .k) (v .set .m) = subst (λ (z : Bool). FilledRows rows (λ q i. partialRow (v .partials) (sidesAt v f0) q i) (pick z 1 (v .set .k)) (v .set .m)) b (T .rows-are) in
+        steps-as _ _ (nearest 0 1) (v .set .k) (λ q h y. ap (λ (z : Float). y ⊕ getD g q nan ⊗ z) (R .at q i h l))
 
-    each : (b : Bool) → eqb (v .blend) 0 ≡ b → (i : ℕ) → i < v .m → (y : Float) → term b i y ≡ partialTerm v f0 g i y (advanceOf (getD ps i nan) (stepAt v f0 i))
+    each : (b : Bool) → eqb (v .set .blend) 0 ≡ b → (i : ℕ) → i < v .set .m → (y : Float) → term b i y ≡ partialTerm v f0 g i y (advanceOf (getD ps i nan) (stepAt v f0 i))
     unfolding partialTerm addSingle addBlend
     each true b i l y = rw (b, first-row i b l, T .mainlobe, T .fading .at i l, sine-at i l)
     each false b i l y = rw (b, blended i b l, T .mainlobe, T .fading .at i l, sine-at i l)
 
     -- LAW: what `tone_sum` ensures is the sum of the partials
-    pub tone-sound : (y : Float) → y ≡ steps (λ i y. term (eqb (v .blend) 0) i y) (nearest 0 1) (v .m) → y ≡ partialSum v f0 g ps
+    pub tone-sound : (y : Float) → y ≡ steps (λ i y. term (eqb (v .set .blend) 0) i y) (nearest 0 1) (v .set .m) → y ≡ partialSum v f0 g ps
     unfolding partialSum
-    tone-sound y e = e ∙ steps-as _ _ (nearest 0 1) (v .m) (λ i l y. each (eqb (v .blend) 0) refl i l y)
+    tone-sound y e = e ∙ steps-as _ _ (nearest 0 1) (v .set .m) (λ i l y. each (eqb (v .set .blend) 0) refl i l y)
 
 -- ---- columns that are filled anew
 module _ (x : Fixed) (count : ℕ) (pitches stretches mainlobes partials : List Float) (f0 : Float) (p : Pitch)

@@ -17,18 +17,18 @@ use Rattle.player.specs.Phase.{advanceOf, inverseOf, stepOf, partialFreq
 use Rattle.player.specs.Fade.{nyquistFade}
 use Rattle.voice.specs.Input.{cleaned}
 use Rattle.player.specs.Bracket.{between}
-use Rattle.voice.specs.Voice.{phaseOk, phasesOk}
+use Rattle.voice.specs.Voice.{phaseOk, phasesOk, pitches, stretches, mainlobes}
 use Rattle.player.specs.Sound.{sidesAt, partialRow, blendCoeff, addSingle, addBlend, partialTerm, partialSum, movedPhases}
-use Rattle.player.specs.Passes.{phasesAt, tonesOut}
+use Rattle.player.specs.Passes.{EntriesFit, phasesAt, partialsOut}
 use Rattle.player.specs.Columns.{added}
-use Rattle.player.specs.Tuning.{PitchAt}
+use Rattle.player.specs.Tuning.{PitchAt, Tuned}
 use Rattle.player.specs.declared.fixed.Fixed.{Fixed}
 use Rattle.player.specs.declared.pitch.Pitch.{Pitch}
 use Rattle.player.specs.declared.tuning.Tuning.{Tuning}
 use Rattle.voice.specs.declared.voice.Voice.{Voice}
 use Rattle.voice.proofs.Loops.{steps-again, every-at, at-every, mapTo-at, upTo-again, upTo-full}
 use Rattle.player.proofs.RangeLaws.{advance-ok, phase-passes, step-small}
-use Rattle.player.proofs.SoundLaws.{FixedOf, Facts, inverse-small, phase-inside}
+use Rattle.player.proofs.SoundLaws.{FixedOf, inverse-small, phase-inside}
 use Rattle.player.proofs.ToneLaws.{TunedTo, TunedVoice, tuned-voice, stays, untuned-none, moved-phases, phases-kept, tone-sound}
 
 -- the phases after a sample
@@ -42,28 +42,28 @@ phases-first v freq = refl
 
 -- the samples: a turn of the loop writes one
 module _ (v : Voice) (freq : ℕ → Float) (g : ℕ → List Float) where
-  pub tones-first : (l : List Float) → l ≡ tonesOut v freq g 0 ++ drop 0 l
-  unfolding tonesOut upTo
+  pub tones-first : (l : List Float) → l ≡ partialsOut v freq g 0 ++ drop 0 l
+  unfolding partialsOut upTo
   tones-first l = refl
 
-  pub tones-again : (i : ℕ) (l ls : List Float) (y : Float) → i < length l → ls ≡ tonesOut v freq g i ++ drop i l → y ≡ partialSum v (cleaned (freq i)) (g i) (phasesAt v freq i)
-      → set ls i y ≡ tonesOut v freq g (i + 1) ++ drop (i + 1) l
-  unfolding tonesOut
+  pub tones-again : (i : ℕ) (l ls : List Float) (y : Float) → i < length l → ls ≡ partialsOut v freq g i ++ drop i l → y ≡ partialSum v (cleaned (freq i)) (g i) (phasesAt v freq i)
+      → set ls i y ≡ partialsOut v freq g (i + 1) ++ drop (i + 1) l
+  unfolding partialsOut
   tones-again i l ls y h e ey = ap (λ (z : Float). set ls i z) ey ∙ upTo-again (λ i. partialSum v (cleaned (freq i)) (g i) (phasesAt v freq i)) i l ls h e
 
-  pub tones-full : (i n : ℕ) (l ls ps : List Float) → i ≡ n → length l ≡ n → ls ≡ tonesOut v freq g i ++ drop i l → ps ≡ phasesAt v freq i → (ps ≡ phasesAt v freq n) × (ls ≡ tonesOut v freq g n)
-  unfolding tonesOut
+  pub tones-full : (i n : ℕ) (l ls ps : List Float) → i ≡ n → length l ≡ n → ls ≡ partialsOut v freq g i ++ drop i l → ps ≡ phasesAt v freq i → (ps ≡ phasesAt v freq n) × (ls ≡ partialsOut v freq g n)
+  unfolding partialsOut
   tones-full i n l ls ps q h e p = (p ∙ ap (λ (z : ℕ). phasesAt v freq z) q, upTo-full (λ i. partialSum v (cleaned (freq i)) (g i) (phasesAt v freq i)) i n l ls q h e)
 
 module _ (v : Voice) (x : Fixed) (freq : ℕ → Float) where
   -- before sample i the phases are those of the definitions, and the columns are tuned to every frequency that compares equal to t's
   pub record Toning (i : ℕ) (phases incs fades rows : List Float) (t : Tuning) : Type 0 where
     pub phases-are : phases ≡ phasesAt v freq i
-    pub ok : phasesOk phases (v .m) ≡ true
+    pub ok : phasesOk phases (v .set .m) ≡ true
     pub tuned : (f : Float) → T (fits binary32 f) → Within 20000 1 f → eq f (t .f0) ≡ true → TunedTo v x f incs fades rows t
 
 module _ (v : Voice) (x : Fixed) (X : FixedOf v x) (freq : ℕ → Float) (g : ℕ → List Float) where
-  pub toning-first : (incs fades rows : List Float) (t : Tuning) → phasesOk (v .state .phases) (v .m) ≡ true → t .f0 ≡ nan → Toning v x freq 0 (v .state .phases) incs fades rows t
+  pub toning-first : (incs fades rows : List Float) (t : Tuning) → phasesOk (v .state .phases) (v .set .m) ≡ true → t .f0 ≡ nan → Toning v x freq 0 (v .state .phases) incs fades rows t
   toning-first incs fades rows t h e = record {
     phases-are = phases-first v freq;
     ok = h;
@@ -72,7 +72,7 @@ module _ (v : Voice) (x : Fixed) (X : FixedOf v x) (freq : ℕ → Float) (g : �
 
   -- one sample
   module _ (i : ℕ) (phases incs₀ fades₀ rows₀ : List Float) (t₀ : Tuning) (G : Toning v x freq i phases incs₀ fades₀ rows₀ t₀) (f0 : Float) (ef : f0 ≡ cleaned (freq i)) (F : T (fits binary32 f0)) (W : Within 20000 1 f0)
-      (incs fades rows : List Float) (t : Tuning) (U : TunedTo v x f0 incs fades rows t) (qs : List Float) (Q : qs ≡ mapTo (λ i p. advanceOf p (getD incs i nan)) 0 (v .m) phases) where
+      (incs fades rows : List Float) (t : Tuning) (U : TunedTo v x f0 incs fades rows t) (qs : List Float) (Q : qs ≡ mapTo (λ i p. advanceOf p (getD incs i nan)) 0 (v .set .m) phases) where
     held : TunedVoice v f0 incs fades rows t
     held = tuned-voice v x X incs fades rows t f0 U
 
@@ -85,8 +85,8 @@ module _ (v : Voice) (x : Fixed) (X : FixedOf v x) (freq : ℕ → Float) (g : �
     }
 
     -- LAW: what is stored is the sum of the partials
-    pub sounds : (h sines : List Float) (y : Float) → h ≡ g i → Filled sines (λ i. sineOf (getD qs i nan)) (v .m)
-        → y ≡ steps (λ i y. pick (eqb (v .blend) 0) (added y (getD rows i nan) (getD rows i nan ⊗ t .mainlobe ⊗ getD fades i nan ⊗ getD h 0 nan ⊗ getD sines i nan)) (added y (blendCoeff (λ q. getD rows (q * 32 + i) nan) h (v .k)) (blendCoeff (λ q. getD rows (q * 32 + i) nan) h (v .k) ⊗ t .mainlobe ⊗ getD fades i nan ⊗ getD sines i nan))) (nearest 0 1) (v .m)
+    pub sounds : (h sines : List Float) (y : Float) → h ≡ g i → Filled sines (λ i. sineOf (getD qs i nan)) (v .set .m)
+        → y ≡ steps (λ i y. pick (eqb (v .set .blend) 0) (added y (getD rows i nan) (getD rows i nan ⊗ t .mainlobe ⊗ getD fades i nan ⊗ getD h 0 nan ⊗ getD sines i nan)) (added y (blendCoeff (λ q. getD rows (q * 32 + i) nan) h (v .set .k)) (blendCoeff (λ q. getD rows (q * 32 + i) nan) h (v .set .k) ⊗ t .mainlobe ⊗ getD fades i nan ⊗ getD sines i nan))) (nearest 0 1) (v .set .m)
         → y ≡ partialSum v (cleaned (freq i)) (g i) (phasesAt v freq i)
     sounds h sines y eh A e =
         tone-sound v f0 incs fades rows t held phases qs (G .ok) Q h sines A y e
@@ -94,7 +94,7 @@ module _ (v : Voice) (x : Fixed) (X : FixedOf v x) (freq : ℕ → Float) (g : �
 
 -- ---- few partials: one after the other
 abbrev pub PitchOf : Voice → Float → Pitch → Type 0
-PitchOf v f0 p = (p .f0 ≡ f0) × (p .s ≡ sidesAt v f0) × (p .stretch ≡ between (v .stretch) (p .s)) × (p .mainlobe ≡ between (v .«mainlobe_gain») (p .s))
+PitchOf v f0 p = (p .f0 ≡ f0) × (p .s ≡ sidesAt v f0) × (p .stretch ≡ between (stretches v) (p .s)) × (p .mainlobe ≡ between (mainlobes v) (p .s))
 
 -- LAW: phases that pass the test step to phases that pass it
 phases-step : (m : ℕ) (f0 stretch inv : Float) (ps : List Float) → m ≤ 32 → Within 20000 1 f0 → Within 8 1 stretch → Within 1 4096 inv → phasesOk ps m ≡ true
@@ -121,35 +121,49 @@ module _ (v : Voice) (f0 : Float) (x : Fixed) (p : Pitch) (X : FixedOf v x) (P :
   phases-is ps ls e = e ∙ rw (X .2, X .3, P .2, P .1, P .0)
 
   -- LAW: and they pass the test of phases
-  pub phases-keep : (ps ls : List Float) → Facts v → Within 20000 1 f0 → Within 8 1 (p .stretch) → ls ≡ mapTo (λ i ph. advanceOf ph (stepOf (i + 1) (p .f0) (p .stretch) (x .inv))) 0 (x .m) ps → phasesOk ps (v .m) ≡ true
-      → phasesOk ls (v .m) ≡ true
+  pub phases-keep : (ps ls : List Float) → EntriesFit (v .set) (v .lists) → Within 20000 1 f0 → Within 8 1 (p .stretch) → ls ≡ mapTo (λ i ph. advanceOf ph (stepOf (i + 1) (p .f0) (p .stretch) (x .inv))) 0 (x .m) ps → phasesOk ps (v .set .m) ≡ true
+      → phasesOk ls (v .set .m) ≡ true
   phases-keep ps ls F W S e h =
-      let q : mapTo (λ i ph. advanceOf ph (stepOf (i + 1) (p .f0) (p .stretch) (x .inv))) 0 (x .m) ps ≡ mapTo (λ i ph. advanceOf ph (stepOf (i + 1) f0 (p .stretch) (inverseOf (v .«sample_rate»)))) 0 (v .m) ps = rw (P .0, X .3, X .2) in
-      ap (λ (z : List Float). phasesOk z (v .m)) (e ∙ q) ∙ phases-step (v .m) f0 (p .stretch) (inverseOf (v .«sample_rate»)) ps (F .sizes .1) W S (inverse-small v F) h
+      let q : mapTo (λ i ph. advanceOf ph (stepOf (i + 1) (p .f0) (p .stretch) (x .inv))) 0 (x .m) ps ≡ mapTo (λ i ph. advanceOf ph (stepOf (i + 1) f0 (p .stretch) (inverseOf (v .set .«sample_rate»)))) 0 (v .set .m) ps = rw (P .0, X .3, X .2) in
+      ap (λ (z : List Float). phasesOk z (v .set .m)) (e ∙ q) ∙ phases-step (v .set .m) f0 (p .stretch) (inverseOf (v .set .«sample_rate»)) ps (F .sizes .1) W S (inverse-small (v .set) (v .lists) F) h
 
   -- a single voice sounds by gain 0 alone
-  heard-alike : (ps g h : List Float) → getD h 0 nan ≡ getD g 0 nan → (eqb (v .blend) 0 ≡ false → h ≡ g) → partialSum v f0 h ps ≡ partialSum v f0 g ps
+  heard-alike : (ps g h : List Float) → getD h 0 nan ≡ getD g 0 nan → (eqb (v .set .blend) 0 ≡ false → h ≡ g) → partialSum v f0 h ps ≡ partialSum v f0 g ps
   unfolding partialSum partialTerm
-  heard-alike ps g h e k = go (eqb (v .blend) 0) refl
+  heard-alike ps g h e k = go (eqb (v .set .blend) 0) refl
     where
-      go : (b : Bool) → eqb (v .blend) 0 ≡ b → partialSum v f0 h ps ≡ partialSum v f0 g ps
+      go : (b : Bool) → eqb (v .set .blend) 0 ≡ b → partialSum v f0 h ps ≡ partialSum v f0 g ps
       go true q = rw (q, e)
       go false q = ap (λ (z : List Float). partialSum v f0 z ps) (k q)
 
   -- LAW: the sum is the definition's, where the phases were
-  pub few-sounds : (freq : ℕ → Float) (g : ℕ → List Float) (i : ℕ) (h ps : List Float) (y : Float) → f0 ≡ cleaned (freq i) → (getD h 0 nan ≡ getD (g i) 0 nan) × (eqb (v .blend) 0 ≡ false → h ≡ g i) → ps ≡ phasesAt v freq i → y ≡ partialSum v f0 h ps
+  pub few-sounds : (freq : ℕ → Float) (g : ℕ → List Float) (i : ℕ) (h ps : List Float) (y : Float) → f0 ≡ cleaned (freq i) → (getD h 0 nan ≡ getD (g i) 0 nan) × (eqb (v .set .blend) 0 ≡ false → h ≡ g i) → ps ≡ phasesAt v freq i → y ≡ partialSum v f0 h ps
       → y ≡ partialSum v (cleaned (freq i)) (g i) (phasesAt v freq i)
   few-sounds freq g i h ps y ef eh ep e = e ∙ heard-alike ps (g i) h (eh .0) (eh .1) ∙ rw (ef, ep)
 
 -- what a frequency decides serves every frequency that compares equal: it is the same
-pub pitch-stays : (v : Voice) (p : Pitch) (f0 : Float) → T (fits binary32 f0) → Within 20000 1 f0 → PitchAt (v .«f0_hz») (v .stretch) (v .«mainlobe_gain») (v .count) f0 p
-    → (f : Float) → T (fits binary32 f) → Within 20000 1 f → eq f (p .f0) ≡ true → PitchAt (v .«f0_hz») (v .stretch) (v .«mainlobe_gain») (v .count) f p
+pub pitch-stays : (v : Voice) (p : Pitch) (f0 : Float) → T (fits binary32 f0) → Within 20000 1 f0 → PitchAt (pitches v) (stretches v) (mainlobes v) (v .set .count) f0 p
+    → (f : Float) → T (fits binary32 f) → Within 20000 1 f → eq f (p .f0) ≡ true → PitchAt (pitches v) (stretches v) (mainlobes v) (v .set .count) f p
 pitch-stays v p f0 F W P f G U e =
-    subst (λ (z : Float). PitchAt (v .«f0_hz») (v .stretch) (v .«mainlobe_gain») (v .count) z p) (sym (same-float f f0 G F (U .plain-is) (W .plain-is) (ap (λ (z : Float). eq f z) (sym (P .at)) ∙ e))) P
+    subst (λ (z : Float). PitchAt (pitches v) (stretches v) (mainlobes v) (v .set .count) z p) (sym (same-float f f0 G F (U .plain-is) (W .plain-is) (ap (λ (z : Float). eq f z) (sym (P .at)) ∙ e))) P
 
-pub pitch-of : (v : Voice) (p : Pitch) (f0 : Float) → PitchAt (v .«f0_hz») (v .stretch) (v .«mainlobe_gain») (v .count) f0 p → PitchOf v f0 p
+pub pitch-of : (v : Voice) (p : Pitch) (f0 : Float) → PitchAt (pitches v) (stretches v) (mainlobes v) (v .set .count) f0 p → PitchOf v f0 p
 unfolding sidesAt
 pitch-of v p f0 P = (P .at, P .sides-are, P .stretch-is, P .mainlobe-is)
 
-pub no-pitch-yet : (v : Voice) (p : Pitch) → p .f0 ≡ nan → (f : Float) → T (fits binary32 f) → Within 20000 1 f → eq f (p .f0) ≡ true → PitchAt (v .«f0_hz») (v .stretch) (v .«mainlobe_gain») (v .count) f p
+pub no-pitch-yet : (v : Voice) (p : Pitch) → p .f0 ≡ nan → (f : Float) → T (fits binary32 f) → Within 20000 1 f → eq f (p .f0) ≡ true → PitchAt (pitches v) (stretches v) (mainlobes v) (v .set .count) f p
 no-pitch-yet v p n f F W e = absurd (untuned-none f (ap (λ (z : Float). eq f z) (sym n) ∙ e))
+
+-- ---- the lists that a pass copies out of a voice's
+module _ (v : Voice) (a b d : List Float) (ea : a ≡ pitches v) (eb : b ≡ stretches v) (ed : d ≡ mainlobes v) where
+  pub tuned-of : (x : Fixed) (f0 : Float) (incs fades rows : List Float) (t : Tuning) → Tuned x (v .set .count) a b d (v .partials) f0 incs fades rows t → TunedTo v x f0 incs fades rows t
+  tuned-of x f0 incs fades rows t U = rw (ea, eb, ed) at U
+
+  pub of-tuned : (x : Fixed) (f0 : Float) (incs fades rows : List Float) (t : Tuning) → TunedTo v x f0 incs fades rows t → Tuned x (v .set .count) a b d (v .partials) f0 incs fades rows t
+  of-tuned x f0 incs fades rows t U = rw (ea, eb, ed) U
+
+  pub pitched-of : (f0 : Float) (p : Pitch) → PitchAt a b d (v .set .count) f0 p → PitchAt (pitches v) (stretches v) (mainlobes v) (v .set .count) f0 p
+  pitched-of f0 p P = rw (ea, eb, ed) at P
+
+  pub of-pitched : (f0 : Float) (p : Pitch) → PitchAt (pitches v) (stretches v) (mainlobes v) (v .set .count) f0 p → PitchAt a b d (v .set .count) f0 p
+  of-pitched f0 p P = rw (ea, eb, ed) P

@@ -1,12 +1,12 @@
 // The live bands of a voice as columns: place l belongs to live band l, that is to band `live[l]`.
 ghost use mathlib.Core.Path.{_≡_};
 ghost use Prim.Native.Nat.{_≤_, _<_, _+_, _*_};
-ghost use lib.ListN.{getD};
+ghost use lib.ListN.{length, getD};
 ghost use lib.Ieee.{nan};
 ghost use Rattle.voice.specs.Lists.{Filled, FilledRows};
 ghost use Rattle.player.specs.Columns.{LiveIn, Memories, Coeffs, Ticked, scattered};
 
-// The memories of the live bands.
+// The memories of the live bands, which lie two a band in 32 places.
 pub fn gather_memories(
     z1: &mut [f32; 32],
     z2: &mut [f32; 32],
@@ -15,15 +15,17 @@ pub fn gather_memories(
     n: usize,
 )
     requires { ⌜ (n ≤ 16) × LiveIn (now live) n ⌝ }
-    ensures { λ r. ⌜ Memories (now (z1 .exit)) (now (z2 .exit)) (now (memories .entry)) (now (live .entry)) n ⌝ }
+    ensures { λ r. ⌜ Memories (now (z1 .exit)) (now (z2 .exit)) (now (memories .entry)) (now (live .entry)) n
+        × (length (now (memories .entry)) ≡ 32) ⌝ }
 {
+    let ms = &memories[..];
     let s1 = &mut z1[..];
     let s2 = &mut z2[..];
     let mut l = 0;
     while l < n {
         let at = live[l] * 2;
-        s1[l] = memories[at];
-        s2[l] = memories[at + 1];
+        s1[l] = ms[at];
+        s2[l] = ms[at + 1];
         l += 1;
     }
 }

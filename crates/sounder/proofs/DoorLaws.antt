@@ -3,6 +3,7 @@ use Prim.Native.Nat.{ℕ, zero, suc, _+_, _≤_}
 use mathlib.Core.Path.{_≡_, refl, ap, sym, _∙_}
 use mathlib.Core.List.{List}
 use native.Mathlib.Omega.{arith}
+use lib.Ieee.{Float}
 use lib.ListN.{length, drop, length-drop}
 use lib.Seq.{length-take-le}
 use Rattle.wire.specs.Parse.{ok}
@@ -17,6 +18,14 @@ use Rattle.table.specs.Decode.{decode, nameOf}
 use Rattle.table.specs.Answer.{counts, refusalOf}
 use Rattle.table.proofs.Spelled.{table-parts, header-parts}
 use Rattle.table.proofs.ReadLaws.{accepted}
+use Rattle.voice.specs.Input.{Call}
+use Rattle.voice.specs.Question.{accepted as accepted-by, playQuestion}
+use Rattle.voice.specs.Voice.{withState}
+use Rattle.voice.specs.declared.voice.State.{State}
+use Rattle.voice.specs.declared.voice.Voice.{Voice}
+use Rattle.player.specs.Block.{blockEnd}
+use Rattle.player.specs.Play.{played, PlaysParts, PlaysIn}
+use Rattle.player.specs.declared.playing.Moved.{Moved}
 use Rattle.sounder.specs.declared.answer.Answer.{Answer}
 use Rattle.sounder.specs.Answer.{refusalAnswer, done, kindOf, namePlace}
 
@@ -61,3 +70,18 @@ numbered (CoeffTableCodecError.InconsistentNoiseBandSpan f i) h = absurd (omega 
 
 pub refused-apart : (e : CoeffTableCodecError) (a b : ℕ) → refusalAnswer (refusalOf e) ≡ done a b → ⊥
 refused-apart e a b h = numbered e (ap (λ (x : Answer). x .number) h)
+
+-- a play leaves of a voice all but its running state, refused or not
+state-moves : (q : ℕ) (v : Voice) (s : State) → withState v (accepted-by q (withState v s) v .state) ≡ accepted-by q (withState v s) v
+state-moves zero v s = refl
+state-moves (suc q) v s = refl
+
+-- so a voice where it lies is played where the state that its parts were left in is stored
+pub plays-in : (v : Voice) (c : Call) (out : List Float) (m : Moved) (ys : List Float) → PlaysParts v c out m ys
+    → PlaysIn v c out (m .number) (withState v (m .state)) ys
+unfolding played
+plays-in v c out m ys P = record {
+  answered = P .answered;
+  moves = ap (withState v) (P .moves) ∙ state-moves (playQuestion v c (length out)) v (blockEnd v c);
+  written = P .written;
+}

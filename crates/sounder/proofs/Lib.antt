@@ -1,2 +1,2 @@
 pub mod DoorLaws
-pub mod PlayerLaws
+pub mod Fields

@@ -1,13 +1,16 @@
 -- The answers on voices as they cross to C.
-use Prim.Native.Nat.{ℕ, zero, suc}
-use Rattle.voice.specs.declared.input.Input.{Input}
-use Rattle.filters.specs.declared.rng.Rng.{Rng}
+use mathlib.Core.Path.{_≡_}
+use mathlib.Core.List.{List}
+use lib.ListN.{length}
+use lib.Ieee.{Float}
 use Rattle.making.specs.Making.{Made}
+use Rattle.voice.specs.Input.{Call}
 use Rattle.voice.specs.Question.{Outcome}
+use Rattle.player.specs.Play.{played, playedOut}
 use Rattle.sounder.specs.Answer.{refusalAnswer}
-use Rattle.sounder.specs.declared.lent_door.LentAnswer.{LentAnswer}
 use Rattle.sounder.specs.declared.player_door.MadeAnswer.{MadeAnswer}
 use Rattle.sounder.specs.declared.player_door.PlayedAnswer.{PlayedAnswer}
+use Rattle.voice.specs.declared.voice.Voice.{Voice}
 
 abbrev pub madeAnswer : Made → MadeAnswer
 madeAnswer m = record { answer = refusalAnswer (m .refusal); voice = m .voice }
@@ -15,14 +18,7 @@ madeAnswer m = record { answer = refusalAnswer (m .refusal); voice = m .voice }
 abbrev pub playedAnswer : Outcome → PlayedAnswer
 playedAnswer o = record { number = o .number; voice = o .voice }
 
--- a voice where it lies: what is not written there
-abbrev pub lentAnswer : Outcome → LentAnswer
-lentAnswer o = record { number = o .number; noise = o .voice .state .rng .state }
-
-abbrev pub rngOf : ℕ → Rng
-rngOf n = record { state = n }
-
--- an input by its number of channels: 0 is unconnected
-abbrev pub inputOf : ℕ → Input
-inputOf zero = Input.Unconnected
-inputOf (suc n) = Input.Channels (suc n)
+-- what a play of a voice by value promises, where `out` is the output at the call and `out′` at the return
+pub record PlaysAnswer (v : Voice) (c : Call) (out : List Float) (a : PlayedAnswer) (out′ : List Float) : Type 0 where
+  pub answered : a ≡ playedAnswer (played v c (length out))
+  pub written : out′ ≡ playedOut v c out

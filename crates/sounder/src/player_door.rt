@@ -1,18 +1,15 @@
 // Making voices, and playing them.
 ghost use mathlib.Core.Path.{_≡_};
-ghost use lib.ListN.{length};
-ghost use Rattle.voice.specs.Input.{gains};
+ghost use Rattle.voice.specs.Input.{call};
 ghost use Rattle.filters.specs.Compensation.{noisePowerGain};
-ghost use Rattle.making.specs.Making.{makeOf};
+ghost use Rattle.making.specs.Making.{making, makeOf};
 ghost use Rattle.making.specs.MakeAnswer.{makeRefusal};
 ghost use Rattle.voice.specs.Question.{playNumber};
-ghost use Rattle.player.specs.Play.{played, playedOut};
 ghost use Rattle.voice.specs.Restart.{resetOf, reseedOf};
 ghost use Rattle.sounder.specs.Answer.{refusalAnswer, kindOf};
-ghost use Rattle.sounder.specs.Player.{madeAnswer, playedAnswer, inputOf};
+ghost use Rattle.sounder.specs.Player.{madeAnswer, playedAnswer, PlaysAnswer};
 use crate::answer::Answer;
 use crate::answer::refused;
-use crate::input::input_of;
 use crate::kind::kind_of;
 use filters::NoisePower;
 use filters::biquad_noise_power_gain;
@@ -21,6 +18,7 @@ use making::make;
 use player::play;
 use voice::BiquadCoeffs;
 use voice::PlayAnswer;
+use voice::Shape;
 use voice::Voice;
 use voice::reseed;
 use voice::reset;
@@ -98,7 +96,7 @@ pub extern "C" fn sounder_make(
     sample_rate: f32,
     centres: &[f32],
 ) -> MadeAnswer
-    ensures { λ r. ⌜ r ≡ madeAnswer (makeOf (kindOf kind channel) (now (image .entry)) «sample_rate» (now (centres .entry))) ⌝ }
+    ensures { λ r. ⌜ r ≡ madeAnswer (makeOf (making (kindOf kind channel) (now (image .entry)) «sample_rate» (now (centres .entry)))) ⌝ }
 {
     let made = make(kind_of(kind, channel), image, sample_rate, centres);
     let a = made.answer;
@@ -109,48 +107,22 @@ pub extern "C" fn sounder_make(
     }
 }
 
-// Plays a block. Each input has its number of channels (0: unconnected) before its slice.
+// Plays a block of a voice by value.
 #[no_mangle]
 pub extern "C" fn sounder_play(
     voice: Voice,
-    samples: usize,
-    freq_channels: usize,
+    shape: Shape,
     freq: &[f32],
-    g0_channels: usize,
     g0: &[f32],
-    g1_channels: usize,
     g1: &[f32],
-    g2_channels: usize,
     g2: &[f32],
-    g3_channels: usize,
     g3: &[f32],
-    channels: usize,
     out: &mut [f32],
 ) -> PlayedAnswer
-    ensures answered { λ r. ⌜ r ≡ playedAnswer (played voice samples (inputOf «freq_channels») (now (freq .entry)) (gains (inputOf «g0_channels») (now (g0 .entry)) (inputOf «g1_channels») (now (g1 .entry)) (inputOf «g2_channels») (now (g2 .entry)) (inputOf «g3_channels») (now (g3 .entry))) channels (length (now (out .entry)))) ⌝ }
-    ensures written { λ r. ⌜ now (out .exit) ≡ playedOut voice samples (inputOf «freq_channels») (now (freq .entry)) (gains (inputOf «g0_channels») (now (g0 .entry)) (inputOf «g1_channels») (now (g1 .entry)) (inputOf «g2_channels») (now (g2 .entry)) (inputOf «g3_channels») (now (g3 .entry))) channels (now (out .entry)) ⌝ }
+    ensures { λ r. ⌜ PlaysAnswer voice (call shape (now (freq .entry)) (now (g0 .entry)) (now (g1 .entry)) (now (g2 .entry)) (now (g3 .entry)))
+        (now (out .entry)) r (now (out .exit)) ⌝ }
 {
-    let f = input_of(freq_channels);
-    let a0 = input_of(g0_channels);
-    let a1 = input_of(g1_channels);
-    let a2 = input_of(g2_channels);
-    let a3 = input_of(g3_channels);
-    let p = play(
-        voice,
-        samples,
-        f,
-        freq,
-        a0,
-        g0,
-        a1,
-        g1,
-        a2,
-        g2,
-        a3,
-        g3,
-        channels,
-        out,
-    );
+    let p = play(voice, shape, freq, g0, g1, g2, g3, out);
     let a = p.answer;
     let after = p.voice;
     PlayedAnswer {

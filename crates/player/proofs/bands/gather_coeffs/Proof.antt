@@ -1,4 +1,3 @@
--- `gather_coeffs` meets its contract.
 use mathlib.Core.Path.{_≡_}
 use Prim.Native.Nat.{_+_, _-_, _*_, _≤_, _<_}
 use native.Mathlib.Omega.{arith}
@@ -7,15 +6,17 @@ use lib.Ieee.{nan}
 use Rattle.voice.specs.Lists.{FilledRows}
 use Rattle.player.proofs.ColumnLaws.{rows-none, rows-full}
 use Rattle.player.proofs.BandColumns.{rows-are-coeffs}
+-- `gather_coeffs` meets its contract.
 use borrow.Author.Needs.{needs}
 use Rattle.player.proofs.bands.gather_coeffs.Statement.{statement}
 use Rattle.player.proofs.bands.gather_coeffs.Tie as tie
 
 abbrev Inv-loop : tie.InvT-loop
-Inv-loop coeffs₀ bands live n q₀ coeffs q = (q ≤ 5) × FilledRows coeffs (λ q l. getD bands (getD live l 0 * 5 + q) nan) q n
+Inv-loop coeffs₀ lists live n q₀ coeffs q =
+    (q ≤ 5) × FilledRows coeffs (λ q l. getD lists (64 + getD live l 0 * 5 + q) nan) q n
 
 abbrev μ-loop : tie.MeasureT-loop
-μ-loop coeffs₀ bands live n q₀ coeffs q = 5 - q
+μ-loop coeffs₀ lists live n q₀ coeffs q = 5 - q
 
 loop-holds : tie.Need-loop-holds Inv-loop μ-loop
 loop-holds c =
@@ -41,7 +42,7 @@ returns : tie.Need-returns Inv-loop μ-loop
 returns c =
     let b1 = c .before in
     let b2 = b1 .before in
-    rows-are-coeffs (b1 .loop .coeffs) (b2 .args .bands .now) (b2 .args .live .now) (b2 .args .n) (b2 .pre .1) (rows-full _ (b1 .loop .coeffs) (b1 .loop .q) 5 (b2 .args .n) (omega arith) (b1 .loop .inv .1))
+    rows-are-coeffs (b1 .loop .coeffs) (b2 .args .lists .now) (b2 .args .live .now) (b2 .args .n) (rows-full _ (b1 .loop .coeffs) (b1 .loop .q) 5 (b2 .args .n) (omega arith) (b1 .loop .inv .1))
 
 pub gather-coeffs-spec : {M : Type 1} → statement M
 gather-coeffs-spec =

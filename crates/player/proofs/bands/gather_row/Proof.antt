@@ -1,4 +1,3 @@
--- `gather_row` meets its contract.
 use mathlib.Core.Path.{_≡_, refl}
 use Prim.Native.Nat.{ℕ, _+_, _-_, _*_, _≤_, _<_}
 use native.Mathlib.Omega.{arith}
@@ -6,27 +5,23 @@ use lib.ListN.{length, getD, length-set}
 use lib.Ieee.{Float, nan}
 use Rattle.voice.specs.Lists.{FilledRows}
 use Rattle.player.proofs.ColumnLaws.{RowFilled, row-none, row-again, rows-keep, rows-again}
+-- `gather_row` meets its contract.
 use borrow.Author.Needs.{needs}
 use Rattle.player.proofs.bands.gather_row.Statement.{statement}
 use Rattle.player.proofs.bands.gather_row.Tie as tie
 
 abbrev Inv-loop : tie.InvT-loop
-Inv-loop bands live q n places₀ l₀ places l = (l ≤ n) × (length places ≡ 160) × FilledRows places (λ q l. getD bands (getD live l 0 * 5 + q) nan) q n × RowFilled places (λ l. getD bands (getD live l 0 * 5 + q) nan) q l
+Inv-loop lists live q n places₀ l₀ places l =
+    (l ≤ n) × (length places ≡ 160) × FilledRows places (λ q l. getD lists (64 + getD live l 0 * 5 + q) nan) q n
+    × RowFilled places (λ l. getD lists (64 + getD live l 0 * 5 + q) nan) q l
 
 abbrev μ-loop : tie.MeasureT-loop
-μ-loop bands live q n places₀ l₀ places l = n - l
-
--- a live band is one of 16
-band : (c : tie.In-loop Inv-loop μ-loop) → let b1 = c .before in let b3 = b1 .before .before in getD (b3 .args .live .now) (b1 .loop .l) 0 < 16
-band c =
-    let b1 = c .before in
-    let b3 = b1 .before .before in
-    b3 .pre .2 .below (b1 .loop .l) (c .loop-test .taken)
+μ-loop lists live q n places₀ l₀ places l = n - l
 
 loop-holds : tie.Need-loop-holds Inv-loop μ-loop
 loop-holds c =
     let b1 = c .before in
-    (omega arith, search needs, b1 .pre .3, row-none (λ q l. getD (b1 .args .bands .now) (getD (b1 .args .live .now) l 0 * 5 + q) nan) _ _)
+    (omega arith, search needs, b1 .pre .3, row-none (λ q l. getD (b1 .args .lists .now) (64 + getD (b1 .args .live .now) l 0 * 5 + q) nan) _ _)
 
 mul-from : tie.Need-mul-from Inv-loop μ-loop
 mul-from c = search needs
@@ -35,13 +30,25 @@ element-copy-out-from : tie.Need-element-copy-out-from Inv-loop μ-loop
 element-copy-out-from c = search needs
 
 mul-from-2 : tie.Need-mul-from-2 Inv-loop μ-loop
-mul-from-2 c = omega (arith, band (c .before))
+mul-from-2 c =
+    let b1 = c .before in
+    let b2 = b1 .before in
+    let b4 = b2 .before .before in
+    omega (arith, b4 .pre .2 .below (b2 .loop .l) (b1 .loop-test .taken))
 
 add-from : tie.Need-add-from Inv-loop μ-loop
 add-from c =
     let b1 = c .before in
-    let b4 = b1 .before .before .before in
-    omega (arith, band b1, b4 .pre .0)
+    let b2 = b1 .before in
+    let b4 = b2 .before .before in
+    omega (arith, b4 .pre .2 .below (b2 .loop .l) (b1 .loop-test .taken))
+
+add-from-2 : tie.Need-add-from-2 Inv-loop μ-loop
+add-from-2 c =
+    let b1 = c .before in
+    let b2 = b1 .before in
+    let b4 = b2 .before .before in
+    omega (arith, b4 .pre .2 .below (b2 .loop .l) (b1 .loop-test .taken), b4 .pre .0)
 
 mul-to : tie.Need-mul-to Inv-loop μ-loop
 mul-to c = search needs
@@ -52,14 +59,16 @@ add-to c = search needs
 mul-places : tie.Need-mul-places Inv-loop μ-loop
 mul-places c =
     let b1 = c .before in
-    let b4 = b1 .before .before .before in
-    omega (arith, band b1, b4 .pre .0)
+    let b2 = b1 .before in
+    let b4 = b2 .before .before in
+    omega (arith, b4 .pre .2 .below (b2 .loop .l) (b1 .loop-test .taken), b4 .pre .0)
 
 element-copy-out-places : tie.Need-element-copy-out-places Inv-loop μ-loop
 element-copy-out-places c =
     let b1 = c .before in
-    let b4 = b1 .before .before .before in
-    omega (arith, band b1, b4 .pre .0)
+    let b2 = b1 .before in
+    let b4 = b2 .before .before in
+    omega (arith, b4 .pre .2 .below (b2 .loop .l) (b1 .loop-test .taken), b4 .pre .0)
 
 mul-places-2 : tie.Need-mul-places-2 Inv-loop μ-loop
 mul-places-2 c = search needs
@@ -78,22 +87,19 @@ loop-again c =
     let b2 = c .before .before in
     let b3 = b2 .before in
     let b5 = b3 .before .before in
-    let a = b5 .args in
-    let I = b3 .loop .inv in
-    let f : ℕ → ℕ → Float = λ q l. getD (a .bands .now) (getD (a .live .now) l 0 * 5 + q) nan in (
-      omega (arith, b2 .loop-test .taken),
-      simp length-set (I .1),
-      rows-keep f (b3 .loop .places) (a .q) (a .n) (b3 .loop .l) _ (omega (arith, b5 .pre .1)) (I .2),
-      row-again f (b3 .loop .places) (a .q) (b3 .loop .l) _ (omega (arith, b2 .loop-test .taken, b5 .pre .0, b5 .pre .1, I .1)) refl (I .3),
-    )
+    let f : ℕ → ℕ → Float = λ q l. getD (b5 .args .lists .now) (64 + getD (b5 .args .live .now) l 0 * 5 + q) nan in (
+        omega (arith, b2 .loop-test .taken),
+        simp length-set (b3 .loop .inv .1),
+        rows-keep f (b3 .loop .places) (b5 .args .q) (b5 .args .n) (b3 .loop .l) _ (omega (arith, b5 .pre .1)) (b3 .loop .inv .2),
+        row-again f (b3 .loop .places) (b5 .args .q) (b3 .loop .l) _ (omega (arith, b2 .loop-test .taken, b5 .pre .0, b5 .pre .1, b3 .loop .inv .1)) refl (b3 .loop .inv .3),
+      )
 
 returns : tie.Need-returns Inv-loop μ-loop
 returns c =
     let b1 = c .before in
     let b3 = b1 .before .before in
-    let a = b3 .args in
-    let f : ℕ → ℕ → Float = λ q l. getD (a .bands .now) (getD (a .live .now) l 0 * 5 + q) nan in
-    rows-again f (b1 .loop .places) (a .q) (a .n) (b1 .loop .l) (omega arith) (b1 .loop .inv .2) (b1 .loop .inv .3)
+    let f : ℕ → ℕ → Float = λ q l. getD (b3 .args .lists .now) (64 + getD (b3 .args .live .now) l 0 * 5 + q) nan in
+      rows-again f (b1 .loop .places) (b3 .args .q) (b3 .args .n) (b1 .loop .l) (omega arith) (b1 .loop .inv .2) (b1 .loop .inv .3)
 
 pub gather-row-spec : {M : Type 1} → statement M
 gather-row-spec =
@@ -106,6 +112,7 @@ gather-row-spec =
     element-copy-out-from
     mul-from-2
     add-from
+    add-from-2
     mul-to
     add-to
     mul-places

@@ -1,34 +1,27 @@
--- `scatter_memories` meets its contract.
-use Rattle.voice.proofs.Loops.{steps-again, steps-full}
-use Rattle.player.proofs.PartsLaws.{memories-written}
-use mathlib.Core.Path.{_≡_, refl, _∙_}
+use mathlib.Core.Path.{_≡_, refl, ap, _∙_}
 use native.Mathlib.Omega.{arith}
-use borrow.Author.Needs.{needs}
 use Prim.Native.Nat.{_-_, _≤_, _<_}
-use lib.ListN.{length, getD, set, length-set}
-use Rattle.voice.specs.Parts.{memoriesOf}
+use lib.ListN.{length, getD, length-set}
 use Rattle.voice.specs.Lists.{steps}
-use Rattle.player.specs.Columns.{stateOfColumns}
+use Rattle.voice.specs.Voice.{withMemory}
+use Rattle.player.specs.Columns.{stateOfColumns, scattered}
+use Rattle.voice.proofs.Loops.{steps-again, steps-full}
+-- `scatter_memories` meets its contract.
+use borrow.Author.Needs.{needs}
 use Rattle.player.proofs.bands.scatter_memories.Statement.{statement}
 use Rattle.player.proofs.bands.scatter_memories.Tie as tie
 
 abbrev Inv-loop : tie.InvT-loop
-Inv-loop memories₀ live z1 z2 n l₀ memories l = (l ≤ n) × (length memories ≡ 32) × (memoriesOf memories ≡ steps (λ l ms. set ms (getD live l 0) (stateOfColumns z1 z2 l)) (memoriesOf memories₀) l)
+Inv-loop live z1 z2 n s₀ l₀ s l =
+    (l ≤ n) × (length s ≡ 32) × (s ≡ scattered live z1 z2 s₀ l)
 
 abbrev μ-loop : tie.MeasureT-loop
-μ-loop memories₀ live z1 z2 n l₀ memories l = n - l
-
--- a live band is one of 16
-band : (c : tie.In-loop Inv-loop μ-loop) → let b1 = c .before in let b2 = b1 .before in getD (b2 .args .live .now) (b1 .loop .l) 0 < 16
-band c =
-    let b1 = c .before in
-    let b2 = b1 .before in
-    b2 .pre .2 .below (b1 .loop .l) (c .loop-test .taken)
+μ-loop live z1 z2 n s₀ l₀ s l = n - l
 
 loop-holds : tie.Need-loop-holds Inv-loop μ-loop
 unfolding steps
 loop-holds c =
-    (omega arith, c .pre .1, refl)
+    (omega arith, search needs, refl)
 
 mul-at : tie.Need-mul-at Inv-loop μ-loop
 mul-at c = search needs
@@ -40,49 +33,55 @@ mul-at-2 : tie.Need-mul-at-2 Inv-loop μ-loop
 mul-at-2 c =
     let b1 = c .before in
     let b2 = b1 .before in
-    omega (arith, band b1, b2 .loop .inv .1)
+    let b4 = b2 .before .before in
+    omega (arith, b4 .pre .1 .below (b2 .loop .l) (b1 .loop-test .taken))
 
-mul-memories : tie.Need-mul-memories Inv-loop μ-loop
-mul-memories c = search needs
+mul-s : tie.Need-mul-s Inv-loop μ-loop
+mul-s c = search needs
 
-element-copy-out-memories : tie.Need-element-copy-out-memories Inv-loop μ-loop
-element-copy-out-memories c = search needs
+element-copy-out-s : tie.Need-element-copy-out-s Inv-loop μ-loop
+element-copy-out-s c = search needs
 
-mul-memories-2 : tie.Need-mul-memories-2 Inv-loop μ-loop
-mul-memories-2 c =
+mul-s-2 : tie.Need-mul-s-2 Inv-loop μ-loop
+mul-s-2 c =
     let b2 = c .before .before in
     let b3 = b2 .before in
-    omega (arith, band b2, b3 .loop .inv .1)
+    let b5 = b3 .before .before in
+    omega (arith, b5 .pre .1 .below (b3 .loop .l) (b2 .loop-test .taken), b3 .loop .inv .1)
 
-slice-write-memories : tie.Need-slice-write-memories Inv-loop μ-loop
-slice-write-memories c =
+slice-write-s : tie.Need-slice-write-s Inv-loop μ-loop
+slice-write-s c =
     let b2 = c .before .before in
     let b3 = b2 .before in
-    omega (arith, band b2, b3 .loop .inv .1)
+    let b5 = b3 .before .before in
+    omega (arith, b5 .pre .1 .below (b3 .loop .l) (b2 .loop-test .taken), b3 .loop .inv .1)
 
-mul-memories-3 : tie.Need-mul-memories-3 Inv-loop μ-loop
-mul-memories-3 c = search needs
+mul-s-3 : tie.Need-mul-s-3 Inv-loop μ-loop
+mul-s-3 c = search needs
 
-element-copy-out-memories-2 : tie.Need-element-copy-out-memories-2 Inv-loop μ-loop
-element-copy-out-memories-2 c = search needs
+element-copy-out-s-2 : tie.Need-element-copy-out-s-2 Inv-loop μ-loop
+element-copy-out-s-2 c = search needs
 
-add-memories : tie.Need-add-memories Inv-loop μ-loop
-add-memories c =
+add-s : tie.Need-add-s Inv-loop μ-loop
+add-s c =
     let b3 = c .before .before .before in
     let b4 = b3 .before in
-    omega (arith, band b3, b4 .loop .inv .1)
+    let b6 = b4 .before .before in
+    omega (arith, b6 .pre .1 .below (b4 .loop .l) (b3 .loop-test .taken), b4 .loop .inv .1)
 
-mul-memories-4 : tie.Need-mul-memories-4 Inv-loop μ-loop
-mul-memories-4 c =
+mul-s-4 : tie.Need-mul-s-4 Inv-loop μ-loop
+mul-s-4 c =
     let b3 = c .before .before .before in
     let b4 = b3 .before in
-    omega (arith, band b3, b4 .loop .inv .1)
+    let b6 = b4 .before .before in
+    omega (arith, b6 .pre .1 .below (b4 .loop .l) (b3 .loop-test .taken), b4 .loop .inv .1)
 
-slice-write-memories-2 : tie.Need-slice-write-memories-2 Inv-loop μ-loop
-slice-write-memories-2 c =
+slice-write-s-2 : tie.Need-slice-write-s-2 Inv-loop μ-loop
+slice-write-s-2 c =
     let b3 = c .before .before .before in
     let b4 = b3 .before in
-    simp length-set (omega (arith, band b3, b4 .loop .inv .1))
+    let b6 = b4 .before .before in
+    simp length-set (omega (arith, b6 .pre .1 .below (b4 .loop .l) (b3 .loop-test .taken), b4 .loop .inv .1))
 
 add-l : tie.Need-add-l Inv-loop μ-loop
 add-l c = search needs
@@ -94,19 +93,13 @@ loop-again : tie.Need-loop-again Inv-loop μ-loop
 loop-again c =
     let b3 = c .before .before .before in
     let b4 = b3 .before in
-    let b5 = b4 .before in (
-      omega (arith, b3 .loop-test .taken),
-      simp length-set (b4 .loop .inv .1),
-      memories-written (b4 .loop .memories) (getD (b5 .args .live .now) (b4 .loop .l) 0) _ _ (b4 .loop .inv .1) (band b3) ∙ steps-again (λ l ms. set ms (getD (b5 .args .live .now) l 0) (stateOfColumns (b5 .args .z1 .now) (b5 .args .z2 .now) l)) _ _ (b4 .loop .l) (b4 .loop .inv .2),
-    )
-
-same-length : tie.Need-same-length Inv-loop μ-loop
-same-length c = search needs
+    let b6 = b4 .before .before in
+    (omega (arith, b3 .loop-test .taken), simp length-set (b4 .loop .inv .1), steps-again (λ l ms. withMemory ms (getD (b6 .args .live .now) l 0) (stateOfColumns (b6 .args .z1 .now) (b6 .args .z2 .now) l)) _ (b4 .loop .s) (b4 .loop .l) (b4 .loop .inv .2))
 
 returns : tie.Need-returns Inv-loop μ-loop
 returns c =
     let b1 = c .before in
-    (steps-full _ _ _ (b1 .loop .l) _ (omega (arith, c .loop-test .left, b1 .loop .inv .0)) (b1 .loop .inv .2), b1 .loop .inv .1)
+    steps-full _ _ _ (b1 .loop .l) _ (omega (arith, c .loop-test .left, b1 .loop .inv .0)) (b1 .loop .inv .2)
 
 pub scatter-memories-spec : {M : Type 1} → statement M
 scatter-memories-spec =
@@ -118,17 +111,16 @@ scatter-memories-spec =
     mul-at
     element-copy-out-at
     mul-at-2
-    mul-memories
-    element-copy-out-memories
-    mul-memories-2
-    slice-write-memories
-    mul-memories-3
-    element-copy-out-memories-2
-    add-memories
-    mul-memories-4
-    slice-write-memories-2
+    mul-s
+    element-copy-out-s
+    mul-s-2
+    slice-write-s
+    mul-s-3
+    element-copy-out-s-2
+    add-s
+    mul-s-4
+    slice-write-s-2
     add-l
     loop-less
     loop-again
-    same-length
     returns)

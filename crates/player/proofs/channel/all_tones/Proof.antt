@@ -1,9 +1,9 @@
--- `all_tones` meets its contract.
 use mathlib.Core.Path.{_∙_}
-use borrow.Author.Tests.{eq-eqb, eqb-true}
-use Rattle.voice.specs.Input.{frequencyAt, gains, gainsAt}
-use Rattle.player.specs.Passes.{toneVoice}
+use lib.ListN.{length}
+use Rattle.voice.specs.Input.{frequencyOf, gainsOf}
+use Rattle.player.specs.Passes.{partialsVoice}
 use Rattle.player.proofs.ChannelLaws.{same-phases, no-tones}
+-- `all_tones` meets its contract.
 use borrow.Author.Needs.{needs}
 use Rattle.player.proofs.channel.all_tones.Statement.{statement}
 use Rattle.player.proofs.channel.all_tones.Tie as tie
@@ -19,10 +19,10 @@ returns c =
     let b2 = c .before .before in
     let b4 = b2 .before .before in
     let b12 = b4 .before .before .before .before .before .before .before .before in
-    let v = toneVoice (b12 .args .set) (b12 .args .f0-hz .now) (b12 .args .stretch .now) (b12 .args .mainlobe-gain .now) (b12 .args .partials .now) (b12 .args .phases .now) in
-    let F = frequencyAt (b12 .args .freq) (b12 .args .freq-s .now) (b12 .args .samples) (b12 .args .ch) in
-    let G = gainsAt (gains (b12 .args .g0) (b12 .args .g0-s .now) (b12 .args .g1) (b12 .args .g1-s .now) (b12 .args .g2) (b12 .args .g2-s .now) (b12 .args .g3) (b12 .args .g3-s .now)) (b12 .args .samples) (b12 .args .ch) in
-    (same-phases v F G (b4 .if1 .taken) (b12 .args .samples), b2 .silence .ensures ∙ no-tones v F G (b4 .if1 .taken) (b12 .args .samples))
+    let v = partialsVoice (b12 .args .set) (b12 .args .lists .now) (b12 .args .partials .now) (b12 .args .phases .now) in
+      let F = frequencyOf (b12 .args .freq .now) in
+      let G = gainsOf (b12 .args .g0 .now) (b12 .args .g1 .now) (b12 .args .g2 .now) (b12 .args .g3 .now) in
+      record { moves = same-phases v F G (b4 .if1 .taken) (length (b12 .args .out .now)); written = b2 .silence .ensures ∙ no-tones v F G (b4 .if1 .taken) (length (b12 .args .out .now)) }
 
 few-tones-requires : tie.Need-few-tones-requires
 few-tones-requires c κs = search needs

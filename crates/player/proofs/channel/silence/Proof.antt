@@ -1,4 +1,3 @@
--- `silence` meets its contract.
 use mathlib.Core.Path.{_≡_, refl}
 use mathlib.Core.List.{_++_}
 use Prim.Native.Nat.{_-_, _≤_}
@@ -8,20 +7,22 @@ use lib.Ieee.{ofBits, round}
 use Rattle.float.specs.F32.{nearest}
 use Rattle.voice.specs.Lists.{upTo}
 use Rattle.voice.proofs.Loops.{upTo-again, upTo-full}
+-- `silence` meets its contract.
 use borrow.Author.Needs.{needs}
 use Rattle.player.proofs.channel.silence.Statement.{statement}
 use Rattle.player.proofs.channel.silence.Tie as tie
 
 abbrev Inv-loop : tie.InvT-loop
-Inv-loop samples out₀ i₀ out i = (i ≤ samples) × (length out ≡ samples) × (out ≡ upTo (λ i. nearest 0 1) i ++ drop i out₀)
+Inv-loop out₀ i₀ out i =
+    (i ≤ length out₀) × (length out ≡ length out₀) × (out ≡ upTo (λ i. nearest 0 1) i ++ drop i out₀)
 
 abbrev μ-loop : tie.MeasureT-loop
-μ-loop samples out₀ i₀ out i = samples - i
+μ-loop out₀ i₀ out i = length out₀ - i
 
 loop-holds : tie.Need-loop-holds Inv-loop μ-loop
 unfolding upTo
 loop-holds c =
-    (omega arith, c .pre, refl)
+    (omega arith, refl, refl)
 
 mul-out : tie.Need-mul-out Inv-loop μ-loop
 mul-out c = search needs
@@ -40,7 +41,7 @@ unfolding ofBits round
 loop-again c =
     let b1 = c .before in
     let b2 = b1 .before in
-    (omega arith, simp length-set (b1 .loop .inv .1), upTo-again (λ i. nearest 0 1) (b1 .loop .i) (b2 .args .out .now) (b1 .loop .out) (omega arith) (b1 .loop .inv .2))
+    (omega (arith, c .loop-test .taken, b1 .loop .inv .1), simp length-set (b1 .loop .inv .1), upTo-again (λ i. nearest 0 1) (b1 .loop .i) (b2 .args .out .now) (b1 .loop .out) (omega (arith, c .loop-test .taken, b1 .loop .inv .1)) (b1 .loop .inv .2))
 
 same-length : tie.Need-same-length Inv-loop μ-loop
 same-length c = search needs
@@ -49,7 +50,7 @@ returns : tie.Need-returns Inv-loop μ-loop
 returns c =
     let b1 = c .before in
     let b2 = b1 .before in
-    upTo-full (λ i. nearest 0 1) (b1 .loop .i) (b2 .args .samples) (b2 .args .out .now) (b1 .loop .out) (omega arith) (b2 .pre) (b1 .loop .inv .2)
+    upTo-full (λ i. nearest 0 1) (b1 .loop .i) (length (b2 .args .out .now)) (b2 .args .out .now) (b1 .loop .out) (omega (arith, c .loop-test .left, b1 .loop .inv .1, b1 .loop .inv .0)) refl (b1 .loop .inv .2)
 
 pub silence-spec : {M : Type 1} → statement M
 silence-spec =

@@ -1,4 +1,3 @@
--- `tones` meets its contract.
 use mathlib.Core.Path.{_≡_, refl, sym, ap, _∙_, subst}
 use mathlib.Core.List.{List, _++_}
 use mathlib.Core.Bool.{true}
@@ -7,174 +6,185 @@ use native.Mathlib.Omega.{arith}
 use lib.ListN.{length, drop, getD, length-set}
 use lib.Ieee.{Float, nan}
 use Rattle.float.specs.Range.{Within}
-use Rattle.voice.specs.Input.{frequencyAt, gains, gainsAt, cleaned}
-use Rattle.player.specs.Passes.{toneVoice, phasesAt, tonesOut}
-use Rattle.voice.specs.Voice.{phasesOk}
+use Rattle.voice.specs.Input.{frequencyOf, gainsOf, cleaned}
+use Rattle.player.specs.Passes.{partialsVoice, phasesAt, partialsOut}
 use Rattle.voice.specs.declared.voice.Voice.{Voice}
 use Rattle.player.proofs.RangeLaws.{hold}
-use Rattle.player.proofs.SoundLaws.{FixedOf, Facts, facts, cleaned-within, frequency-passes, inverse-small}
-use borrow.Author.Needs.{needs}
+use Rattle.player.proofs.SoundLaws.{FixedOf, cleaned-within, inverse-small}
 use Rattle.player.proofs.ToneLaws.{tuned-voice, all-phases}
-use Rattle.player.proofs.TonePass.{Toning, toning-first, toning-again, sounds, tones-first, tones-again, tones-full}
+use Rattle.player.proofs.TonePass.{Toning, toning-first, toning-again, sounds, tones-first, tones-again, tones-full, tuned-of, of-tuned}
+-- `tones` meets its contract.
+use borrow.Author.Needs.{needs}
 use Rattle.player.proofs.tones.tones.Statement.{statement}
 use Rattle.player.proofs.tones.tones.Tie as tie
-use Rattle.wave_table.proofs.waves.Reads as waves-reads
 
 abbrev Inv-loop : tie.InvT-loop
-Inv-loop set f0-hz stretch mainlobe-gain partials phases₀ samples freq freq-s g0 g0-s g1 g1-s g2 g2-s g3 g3-s ch out₀ wave v at gains-from freqs₀ incs₀ fades₀ sines₀ terms₀ rests₀ coeffs₀ rows₀ t₀ i₀ phases out freqs incs fades sines terms rests coeffs rows t i = (i ≤ samples) × (length out ≡ samples) × (out ≡ tonesOut (toneVoice set f0-hz stretch mainlobe-gain partials phases₀) (frequencyAt freq freq-s samples ch) (gainsAt (gains g0 g0-s g1 g1-s g2 g2-s g3 g3-s) samples ch) i ++ drop i out₀) × Toning (toneVoice set f0-hz stretch mainlobe-gain partials phases₀) v (frequencyAt freq freq-s samples ch) i phases incs fades rows t
+Inv-loop set lists partials phases₀ freq g0 g1 g2 g3 out₀ f0-hz stretch mainlobe-gain wave v freqs₀ incs₀ fades₀ sines₀ terms₀ rests₀ coeffs₀ rows₀ t₀ i₀ phases out freqs incs fades sines terms rests coeffs rows t i =
+    (i ≤ length out₀) × (length out ≡ length out₀)
+    × (out ≡ partialsOut (partialsVoice set lists partials phases₀) (frequencyOf freq) (gainsOf g0 g1 g2 g3) i ++ drop i out₀)
+    × Toning (partialsVoice set lists partials phases₀) v (frequencyOf freq) i phases incs fades rows t
 
 abbrev μ-loop : tie.MeasureT-loop
-μ-loop set f0-hz stretch mainlobe-gain partials phases₀ samples freq freq-s g0 g0-s g1 g1-s g2 g2-s g3 g3-s ch out₀ wave v at gains-from freqs₀ incs₀ fades₀ sines₀ terms₀ rests₀ coeffs₀ rows₀ t₀ i₀ phases out freqs incs fades sines terms rests coeffs rows t i = samples - i
+μ-loop set lists partials phases₀ freq g0 g1 g2 g3 out₀ f0-hz stretch mainlobe-gain wave v freqs₀ incs₀ fades₀ sines₀ terms₀ rests₀ coeffs₀ rows₀ t₀ i₀ phases out freqs incs fades sines terms rests coeffs rows t i = length out₀ - i
 
 -- the voice, and what its inputs give
 abbrev voice : (c : tie.Start Inv-loop μ-loop) → Voice
-voice c =
-    toneVoice (c .args .set) (c .args .f0-hz .now) (c .args .stretch .now) (c .args .mainlobe-gain .now) (c .args .partials .now) (c .args .phases .now)
+voice c = partialsVoice (c .args .set) (c .args .lists .now) (c .args .partials .now) (c .args .phases .now)
 
 abbrev freq-of : (c : tie.Start Inv-loop μ-loop) → ℕ → Float
-freq-of c =
-    frequencyAt (c .args .freq) (c .args .freq-s .now) (c .args .samples) (c .args .ch)
+freq-of c = frequencyOf (c .args .freq .now)
 
 abbrev gains-of : (c : tie.Start Inv-loop μ-loop) → ℕ → List Float
-gains-of c =
-    gainsAt (gains (c .args .g0) (c .args .g0-s .now) (c .args .g1) (c .args .g1-s .now) (c .args .g2) (c .args .g2-s .now) (c .args .g3) (c .args .g3-s .now)) (c .args .samples) (c .args .ch)
+gains-of c = gainsOf (c .args .g0 .now) (c .args .g1 .now) (c .args .g2 .now) (c .args .g3 .now)
 
-rules : (c : tie.Start Inv-loop μ-loop) → Facts (voice c)
-rules c =
-    facts (voice c) (c .pre .0 .0)
+-- the frequency of a sample is one that can be played
+within : (c : tie.Start Inv-loop μ-loop) (i : ℕ) (f0 : Float) → f0 ≡ cleaned (freq-of c i) → Within 20000 1 f0
+within c i f0 e = subst (λ (z : Float). Within 20000 1 z) (sym e) (cleaned-within (freq-of c i) (c .pre .3 i))
+
+list-of-requires : tie.Need-list-of-requires Inv-loop μ-loop
+list-of-requires c κs = search needs
+
+list-of-requires-2 : tie.Need-list-of-requires-2 Inv-loop μ-loop
+list-of-requires-2 c κs = search needs
+
+list-of-requires-3 : tie.Need-list-of-requires-3 Inv-loop μ-loop
+list-of-requires-3 c κs = search needs
 
 waves-requires : tie.Need-waves-requires Inv-loop μ-loop
-waves-requires c κs =
-    search needs
+waves-requires c κs = search needs
 
 fixed-of-requires : tie.Need-fixed-of-requires Inv-loop μ-loop
-fixed-of-requires c κs =
-    search needs
-
-start-of-requires : tie.Need-start-of-requires Inv-loop μ-loop
-start-of-requires c κs =
-    search needs
-
-gain-starts-requires : tie.Need-gain-starts-requires Inv-loop μ-loop
-gain-starts-requires c κs =
-    search needs
+fixed-of-requires c κs = search needs
 
 untuned-requires : tie.Need-untuned-requires Inv-loop μ-loop
-untuned-requires c κs =
-    search needs
+untuned-requires c κs = search needs
 
 loop-holds : tie.Need-loop-holds Inv-loop μ-loop
 loop-holds c =
-    let b3 = c .before .before .before in
-    let b11 = b3 .before .before .before .before .before .before .before .before in
-    (omega arith, b11 .pre .0 .2, tones-first (voice b11) (freq-of b11) (gains-of b11) (b11 .args .out .now), toning-first (voice b11) (b3 .fixed-of .result) (b3 .fixed-of .ensures) (freq-of b11) (gains-of b11) _ _ _ _ ((rules b11) .phases) (c .untuned .ensures))
+    let b1 = c .before in
+    let b12 = b1 .before .before .before .before .before .before .before .before .before .before .before in
+    (omega arith, refl, tones-first (voice b12) (freq-of b12) (gains-of b12) (b12 .args .out .now), toning-first (voice b12) (b1 .fixed-of .result) (b1 .fixed-of .ensures) (freq-of b12) (gains-of b12) _ _ _ _ (b12 .pre .1) (c .untuned .ensures))
 
 frequency-at-requires : tie.Need-frequency-at-requires Inv-loop μ-loop
-frequency-at-requires c κs =
-    let b4 = c .before .before .before .before in
-    let b13 = b4 .before .before .before .before .before .before .before .before .before in
-    (b13 .pre .1 .0, (b4 .start-of .ensures, c .loop-test .taken))
+frequency-at-requires c κs = search needs
 
 gains-at-requires : tie.Need-gains-at-requires Inv-loop μ-loop
-gains-at-requires c κs =
-    let b1 = c .before in
-    let b4 = b1 .before .before .before in
-    let b14 = b4 .before .before .before .before .before .before .before .before .before .before in
-    ((b14 .pre .1 .1, b14 .pre .1 .2, b14 .pre .1 .3, b14 .pre .1 .4), (b4 .gain-starts .ensures .0, b4 .gain-starts .ensures .1, b4 .gain-starts .ensures .2, b4 .gain-starts .ensures .3, b1 .loop-test .taken))
+gains-at-requires c κs = search needs
 
 tune-requires : tie.Need-tune-requires Inv-loop μ-loop
 tune-requires c κs =
-    let b5 = c .before .before .before .before .before in
-    let b6 = b5 .before in
-    let b7 = b6 .before in
-    let b11 = b7 .before .before .before .before in
-    let b19 = b11 .before .before .before .before .before .before .before .before in
-    let W = subst (λ (z : Float). Within 20000 1 z) (sym (b5 .frequency-at .ensures)) (cleaned-within _ (frequency-passes (b19 .args .freq) (b19 .args .freq-s .now) (b19 .args .samples) (b19 .args .ch) (b7 .loop .i) (b19 .pre .1 .0) (b19 .pre .0 .4) (b6 .loop-test .taken))) in
-    let X : FixedOf (voice b19) (b11 .fixed-of .result) = b11 .fixed-of .ensures in
-    let F = rules b19 in
-    ((b19 .pre .0 .1, F .sizes .0, F .pitches, F .stretches, W), ((rw (X .2) (F .sizes .1), rw (X .1) (F .sizes .3), subst (λ (z : Float). Within 1 4096 z) (sym (X .3)) (inverse-small (voice b19) F)), λ e. b7 .loop .inv .3 .tuned (b5 .frequency-at .result) (hold _ (b5 .frequency-at .ok)) W e))
+    let b8 = c .before .before .before .before .before .before .before .before in
+    let b10 = b8 .before .before in
+    let b12 = b10 .before .before in
+    let b14 = b12 .before .before in
+    let b15 = b14 .before in
+    let b16 = b15 .before in
+    let b23 = b16 .before .before .before .before .before .before .before in
+    let v = voice b23 in
+      let f0 = b8 .frequency-at .result in
+      let W = within b23 (b10 .loop .i) f0 (b8 .frequency-at .ensures) in
+      let X : FixedOf v (b12 .fixed-of .result) = b12 .fixed-of .ensures in
+      let F = b23 .pre .0 in
+      ((b23 .pre .2, F .sizes .0, rw (b16 .list-of .ensures) (F .pitches-ok), rw (b15 .list-of2 .ensures) (F .stretches-ok), W), ((rw (X .2) (F .sizes .1), rw (X .1) (F .sizes .2), subst (λ (z : Float). Within 1 4096 z) (sym (X .3)) (inverse-small (b23 .args .set) (b23 .args .lists .now) F)), λ e. of-tuned v (b16 .list-of .result) (b15 .list-of2 .result) (b14 .list-of3 .result) (b16 .list-of .ensures) (b15 .list-of2 .ensures) (b14 .list-of3 .ensures) (b12 .fixed-of .result) f0 _ _ _ (b10 .loop .t) (b10 .loop .inv .3 .tuned f0 (hold _ (b8 .frequency-at .ok)) W e)))
 
 move-phases-requires : tie.Need-move-phases-requires Inv-loop μ-loop
 move-phases-requires c κs =
     let b2 = c .before .before in
-    let b8 = b2 .before .before .before .before .before .before in
-    let b10 = b8 .before .before in
-    let b14 = b10 .before .before .before .before in
-    let b22 = b14 .before .before .before .before .before .before .before .before in
-    let H = tuned-voice (voice b22) (b14 .fixed-of .result) (b14 .fixed-of .ensures) _ _ _ (b2 .tune .result) (b8 .frequency-at .result) (b2 .tune .ensures) in
-    ((rules b22) .sizes .1, b10 .loop .inv .3 .ok, H .safe, λ e. sym (H .small) ∙ e)
+    let b11 = b2 .before .before .before .before .before .before .before .before .before in
+    let b13 = b11 .before .before in
+    let b15 = b13 .before .before in
+    let b17 = b15 .before .before in
+    let b18 = b17 .before in
+    let b19 = b18 .before in
+    let b26 = b19 .before .before .before .before .before .before .before in
+    let v = voice b26 in
+      let U = tuned-of v (b19 .list-of .result) (b18 .list-of2 .result) (b17 .list-of3 .result) (b19 .list-of .ensures) (b18 .list-of2 .ensures) (b17 .list-of3 .ensures) (b15 .fixed-of .result) (b11 .frequency-at .result) _ _ _ (b2 .tune .result) (b2 .tune .ensures) in
+      let H = tuned-voice v (b15 .fixed-of .result) (b15 .fixed-of .ensures) _ _ _ (b2 .tune .result) (b11 .frequency-at .result) U in
+      (b26 .pre .0 .sizes .1, b13 .loop .inv .3 .ok, H .safe, λ e. sym (H .small) ∙ e)
 
 sines-of-requires : tie.Need-sines-of-requires Inv-loop μ-loop
 sines-of-requires c κs =
     let b6 = c .before .before .before .before .before .before in
     let b9 = b6 .before .before .before in
-    let b15 = b9 .before .before .before .before .before .before in
-    let b17 = b15 .before .before in
-    let b21 = b17 .before .before .before .before in
-    let b22 = b21 .before in
-    let b29 = b22 .before .before .before .before .before .before .before in
-    let H = tuned-voice (voice b29) (b21 .fixed-of .result) (b21 .fixed-of .ensures) _ _ _ (b9 .tune .result) (b15 .frequency-at .result) (b9 .tune .ensures) in
-    (b22 .waves .ensures, (rules b29) .sizes .1, all-phases (voice b29) (b15 .frequency-at .result) _ _ _ (b9 .tune .result) H (b17 .loop .phases) _ (b17 .loop .inv .3 .ok) (b6 .move-phases .ensures))
+    let b18 = b9 .before .before .before .before .before .before .before .before .before in
+    let b20 = b18 .before .before in
+    let b22 = b20 .before .before in
+    let b23 = b22 .before in
+    let b24 = b23 .before in
+    let b25 = b24 .before in
+    let b26 = b25 .before in
+    let b33 = b26 .before .before .before .before .before .before .before in
+    let v = voice b33 in
+      let U = tuned-of v (b26 .list-of .result) (b25 .list-of2 .result) (b24 .list-of3 .result) (b26 .list-of .ensures) (b25 .list-of2 .ensures) (b24 .list-of3 .ensures) (b22 .fixed-of .result) (b18 .frequency-at .result) _ _ _ (b9 .tune .result) (b9 .tune .ensures) in
+      let H = tuned-voice v (b22 .fixed-of .result) (b22 .fixed-of .ensures) _ _ _ (b9 .tune .result) (b18 .frequency-at .result) U in
+      (b23 .waves .ensures, b33 .pre .0 .sizes .1, all-phases v (b18 .frequency-at .result) _ _ _ (b9 .tune .result) H (b20 .loop .phases) _ (b20 .loop .inv .3 .ok) (b6 .move-phases .ensures))
 
 tone-sum-requires : tie.Need-tone-sum-requires Inv-loop μ-loop
 tone-sum-requires c κs =
-    let b36 = c .before .before .before .before .before .before .before .before .before .before .before .before .before .before .before .before .before .before .before .before .before .before .before .before .before .before .before .before .before .before .before .before .before .before .before .before in
-    ((rules b36) .sizes .3, (rules b36) .sizes .1)
+    let b40 = c .before .before .before .before .before .before .before .before .before .before .before .before .before .before .before .before .before .before .before .before .before .before .before .before .before .before .before .before .before .before .before .before .before .before .before .before .before .before .before .before in
+    (b40 .pre .0 .sizes .2, b40 .pre .0 .sizes .1)
 
 mul-out : tie.Need-mul-out Inv-loop μ-loop
 mul-out c =
-    let b24 = c .before .before .before .before .before .before .before .before .before .before .before .before .before .before .before .before .before .before .before .before .before .before .before .before in
-    let b37 = b24 .before .before .before .before .before .before .before .before .before .before .before .before .before in
-    omega (arith, b24 .loop-test .taken, b37 .pre .0 .3)
+    let b27 = c .before .before .before .before .before .before .before .before .before .before .before .before .before .before .before .before .before .before .before .before .before .before .before .before .before .before .before in
+    let b28 = b27 .before in
+    let b41 = b28 .before .before .before .before .before .before .before .before .before .before .before .before .before in
+    omega (arith, b27 .loop-test .taken, b28 .loop .inv .1, b41 .good .1 .1 .1 .1 .1 .1 .1 .1 .1 .0 .1)
 
 slice-write-out : tie.Need-slice-write-out Inv-loop μ-loop
 slice-write-out c =
-    let b24 = c .before .before .before .before .before .before .before .before .before .before .before .before .before .before .before .before .before .before .before .before .before .before .before .before in
-    let b25 = b24 .before in
-    omega (arith, b24 .loop-test .taken, b25 .loop .inv .1)
+    let b27 = c .before .before .before .before .before .before .before .before .before .before .before .before .before .before .before .before .before .before .before .before .before .before .before .before .before .before .before in
+    b27 .loop-test .taken
 
 add-i : tie.Need-add-i Inv-loop μ-loop
 add-i c =
-    let b24 = c .before .before .before .before .before .before .before .before .before .before .before .before .before .before .before .before .before .before .before .before .before .before .before .before in
-    let b37 = b24 .before .before .before .before .before .before .before .before .before .before .before .before .before in
-    omega (arith, b24 .loop-test .taken, b37 .pre .0 .3)
+    let b27 = c .before .before .before .before .before .before .before .before .before .before .before .before .before .before .before .before .before .before .before .before .before .before .before .before .before .before .before in
+    let b28 = b27 .before in
+    let b41 = b28 .before .before .before .before .before .before .before .before .before .before .before .before .before in
+    omega (arith, b27 .loop-test .taken, b28 .loop .inv .1, b41 .good .1 .1 .1 .1 .1 .1 .1 .1 .1 .0 .1)
 
 loop-less : tie.Need-loop-less Inv-loop μ-loop
 loop-less c =
-    let b24 = c .before .before .before .before .before .before .before .before .before .before .before .before .before .before .before .before .before .before .before .before .before .before .before .before in
-    omega (arith, b24 .loop-test .taken)
+    let b27 = c .before .before .before .before .before .before .before .before .before .before .before .before .before .before .before .before .before .before .before .before .before .before .before .before .before .before .before in
+    let b28 = b27 .before in
+    omega (arith, b27 .loop-test .taken, b28 .loop .inv .1)
 
 loop-again : tie.Need-loop-again Inv-loop μ-loop
 loop-again c =
     let b7 = c .before .before .before .before .before .before .before in
     let b14 = b7 .before .before .before .before .before .before .before in
     let b17 = b14 .before .before .before in
-    let b22 = b17 .before .before .before .before .before in
-    let b23 = b22 .before in
-    let b24 = b23 .before in
-    let b25 = b24 .before in
-    let b29 = b25 .before .before .before .before in
-    let b37 = b29 .before .before .before .before .before .before .before .before in
-    let W = subst (λ (z : Float). Within 20000 1 z) (sym (b23 .frequency-at .ensures)) (cleaned-within _ (frequency-passes (b37 .args .freq) (b37 .args .freq-s .now) (b37 .args .samples) (b37 .args .ch) (b25 .loop .i) (b37 .pre .1 .0) (b37 .pre .0 .4) (b24 .loop-test .taken))) in
-    let v = voice b37 in
-    let y = sounds v (b29 .fixed-of .result) (b29 .fixed-of .ensures) (freq-of b37) (gains-of b37) (b25 .loop .i) (b25 .loop .phases) (b25 .loop .incs) (b25 .loop .fades) (b25 .loop .rows) (b25 .loop .t) (b25 .loop .inv .3) (b23 .frequency-at .result) (b23 .frequency-at .ensures) (hold _ (b23 .frequency-at .ok)) W _ _ _ (b17 .tune .result) (b17 .tune .ensures) _ (b14 .move-phases .ensures) _ _ (c .tone-sum .result) (b22 .gains-at .ensures) (b7 .sines-of .ensures) (c .tone-sum .ensures) in (
-      omega (arith, b24 .loop-test .taken),
-      simp length-set (b25 .loop .inv .1),
-      tones-again v (freq-of b37) (gains-of b37) (b25 .loop .i) (b37 .args .out .now) (b25 .loop .out) (c .tone-sum .result) (omega (arith, b24 .loop-test .taken, b37 .pre .0 .2)) (b25 .loop .inv .2) y,
-      toning-again v (b29 .fixed-of .result) (b29 .fixed-of .ensures) (freq-of b37) (gains-of b37) (b25 .loop .i) (b25 .loop .phases) (b25 .loop .incs) (b25 .loop .fades) (b25 .loop .rows) (b25 .loop .t) (b25 .loop .inv .3) (b23 .frequency-at .result) (b23 .frequency-at .ensures) (hold _ (b23 .frequency-at .ok)) W _ _ _ (b17 .tune .result) (b17 .tune .ensures) _ (b14 .move-phases .ensures),
-    )
+    let b25 = b17 .before .before .before .before .before .before .before .before in
+    let b26 = b25 .before in
+    let b27 = b26 .before in
+    let b28 = b27 .before in
+    let b30 = b28 .before .before in
+    let b32 = b30 .before .before in
+    let b33 = b32 .before in
+    let b34 = b33 .before in
+    let b41 = b34 .before .before .before .before .before .before .before in
+    let v = voice b41 in
+      let x = b30 .fixed-of .result in
+      let f0 = b26 .frequency-at .result in
+      let W = within b41 (b28 .loop .i) f0 (b26 .frequency-at .ensures) in
+      let U = tuned-of v (b34 .list-of .result) (b33 .list-of2 .result) (b32 .list-of3 .result) (b34 .list-of .ensures) (b33 .list-of2 .ensures) (b32 .list-of3 .ensures) x f0 _ _ _ (b17 .tune .result) (b17 .tune .ensures) in
+      let y = sounds v x (b30 .fixed-of .ensures) (freq-of b41) (gains-of b41) (b28 .loop .i) (b28 .loop .phases) (b28 .loop .incs) (b28 .loop .fades) (b28 .loop .rows) (b28 .loop .t) (b28 .loop .inv .3) f0 (b26 .frequency-at .ensures) (hold _ (b26 .frequency-at .ok)) W _ _ _ (b17 .tune .result) U _ (b14 .move-phases .ensures) _ _ (c .tone-sum .result) (b25 .gains-at .ensures) (b7 .sines-of .ensures) (c .tone-sum .ensures) in (
+        omega (arith, b27 .loop-test .taken, b28 .loop .inv .1),
+        simp length-set (b28 .loop .inv .1),
+        tones-again v (freq-of b41) (gains-of b41) (b28 .loop .i) (b41 .args .out .now) (b28 .loop .out) (c .tone-sum .result) (omega (arith, b27 .loop-test .taken, b28 .loop .inv .1)) (b28 .loop .inv .2) y,
+        toning-again v x (b30 .fixed-of .ensures) (freq-of b41) (gains-of b41) (b28 .loop .i) (b28 .loop .phases) (b28 .loop .incs) (b28 .loop .fades) (b28 .loop .rows) (b28 .loop .t) (b28 .loop .inv .3) f0 (b26 .frequency-at .ensures) (hold _ (b26 .frequency-at .ok)) W _ _ _ (b17 .tune .result) U _ (b14 .move-phases .ensures),
+      )
 
 same-length : tie.Need-same-length Inv-loop μ-loop
 same-length c =
     let b1 = c .before in
-    let b13 = b1 .before .before .before .before .before .before .before .before .before .before .before .before in
-    b1 .loop .inv .1 ∙ sym (b13 .pre .0 .2)
+    b1 .loop .inv .1
 
 returns : tie.Need-returns Inv-loop μ-loop
 returns c =
     let b1 = c .before in
-    let b13 = b1 .before .before .before .before .before .before .before .before .before .before .before .before in
-    tones-full (voice b13) (freq-of b13) (gains-of b13) (b1 .loop .i) (b13 .args .samples) (b13 .args .out .now) (b1 .loop .out) (b1 .loop .phases) (omega (arith, c .loop-test .left, b1 .loop .inv .0)) (b13 .pre .0 .2) (b1 .loop .inv .2) (b1 .loop .inv .3 .phases-are)
+    let b14 = b1 .before .before .before .before .before .before .before .before .before .before .before .before .before in
+    let r = tones-full (voice b14) (freq-of b14) (gains-of b14) (b1 .loop .i) (length (b14 .args .out .now)) (b14 .args .out .now) (b1 .loop .out) (b1 .loop .phases) (omega (arith, c .loop-test .left, b1 .loop .inv .0, b1 .loop .inv .1)) refl (b1 .loop .inv .2) (b1 .loop .inv .3 .phases-are) in record { moves = r .0; written = r .1 }
 
 pub tones-spec : {M : Type 1} → statement M
 tones-spec =
@@ -182,10 +192,11 @@ tones-spec =
     (tie.spec
     Inv-loop
     μ-loop
+    list-of-requires
+    list-of-requires-2
+    list-of-requires-3
     waves-requires
     fixed-of-requires
-    start-of-requires
-    gain-starts-requires
     untuned-requires
     loop-holds
     frequency-at-requires

@@ -1,0 +1,59 @@
+-- A play by its questions: refused, it leaves what was given; accepted, what the block leaves.
+use mathlib.Core.Path.{_≡_, refl, sym, ap, _∙_}
+use mathlib.Core.List.{List}
+use Prim.Native.Nat.{ℕ, zero, suc}
+use lib.ListN.{length}
+use lib.Ieee.{Float}
+use Rattle.voice.specs.Input.{Call}
+use Rattle.voice.specs.Voice.{withState, stateOf}
+use Rattle.voice.specs.Question.{playNumber, playQuestion, accepted, Outcome}
+use Rattle.player.specs.Block.{blockEnd}
+use Rattle.player.specs.Passes.{BlockPlayed}
+use Rattle.player.specs.Play.{played, playedOut, Plays, PlaysParts}
+use Rattle.filters.specs.declared.rng.Rng.{Rng}
+use Rattle.player.specs.declared.playing.Moved.{Moved}
+use Rattle.voice.specs.declared.answer.PlayAnswer.{PlayAnswer}
+use Rattle.voice.specs.declared.voice.State.{State}
+use Rattle.voice.specs.declared.voice.Voice.{Voice}
+use Rattle.voice.proofs.QuestionLaws.{refused, refused-out}
+
+module _ (v : Voice) (c : Call) (out : List Float) where
+  abbrev q : ℕ
+  q = playQuestion v c (length out)
+
+  -- the state after a refused call
+  kept-state : (n : ℕ) (w : Voice) → (n ≡ 0 → ⊥) → v .state ≡ accepted n w v .state
+  kept-state zero w h = absurd (h refl)
+  kept-state (suc n) w h = refl
+
+  -- LAW: a refused play of a voice in parts
+  pub parts-refused : (n : ℕ) → n ≡ q → (n ≡ 0 → ⊥) → PlaysParts v c out (record { number = n; state = v .state }) out
+  unfolding played playedOut
+  parts-refused n e h = record {
+    answered = e;
+    moves = rw (sym e) (kept-state n (withState v (blockEnd v c)) h);
+    written = rw (sym e) (refused-out n out _ h);
+  }
+
+  -- LAW: an accepted one
+  pub parts-played : (r : Rng) (ps ms ys : List Float) → q ≡ 0 → BlockPlayed v c r ps ms ys → PlaysParts v c out (record { number = 0; state = stateOf ps ms r }) ys
+  unfolding played playedOut
+  parts-played r ps ms ys z B = record { answered = rw z; moves = rw z (B .ends); written = rw z (B .written) }
+
+  -- LAW: a voice by value, from its parts: refused, it is the one given
+  pub voice-refused : (m : Moved) (ys : List Float) (a : PlayAnswer) → PlaysParts v c out m ys → playNumber a ≡ m .number → (m .number ≡ 0 → ⊥)
+      → Plays v c out (record { answer = a; voice = v }) ys
+  unfolding played
+  voice-refused m ys a P e h = record {
+    answered = rw (e, P .answered) (refused q v (withState v (blockEnd v c)) (λ z. h (P .answered ∙ z)));
+    written = P .written;
+  }
+
+  -- LAW: accepted, it has the state that its parts were left in
+  pub voice-played : (m : Moved) (ys : List Float) → PlaysParts v c out m ys → m .number ≡ 0
+      → Plays v c out (record { answer = PlayAnswer.Done; voice = withState v (m .state) }) ys
+  unfolding played
+  voice-played m ys P e =
+      let z : q ≡ 0 = sym (P .answered) ∙ e in
+      let s : m .state ≡ blockEnd v c = P .moves ∙ ap (λ (n : ℕ). accepted n (withState v (blockEnd v c)) v .state) z in
+      record { answered = rw (z, s); written = P .written }

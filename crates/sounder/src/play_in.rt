@@ -1,0 +1,42 @@
+// Playing a voice where it lies: nothing of it is copied but its running state, which tells in short blocks.
+ghost use Rattle.voice.specs.Input.{call};
+ghost use Rattle.player.specs.Play.{PlaysIn};
+use player::play_parts;
+use voice::Shape;
+use voice::Voice;
+
+// Plays a block of the voice itself, which moves on. A refusal, whose number is answered, leaves it as it is.
+#[no_mangle]
+pub extern "C" fn sounder_play_in(
+    voice: &mut Voice,
+    shape: Shape,
+    freq: &[f32],
+    g0: &[f32],
+    g1: &[f32],
+    g2: &[f32],
+    g3: &[f32],
+    out: &mut [f32],
+) -> u32
+    ensures { λ r. ⌜ PlaysIn (now (voice .entry)) (call shape (now (freq .entry)) (now (g0 .entry)) (now (g1 .entry)) (now (g2 .entry)) (now (g3 .entry)))
+        (now (out .entry)) r (now (voice .exit)) (now (out .exit)) ⌝ }
+{
+    let set = voice.set;
+    let state = voice.state;
+    let m = play_parts(
+        set,
+        &voice.lists,
+        &voice.partials,
+        &voice.noise,
+        state,
+        shape,
+        freq,
+        g0,
+        g1,
+        g2,
+        g3,
+        out,
+    );
+    let after = m.state;
+    voice.state = after;
+    m.number
+}
