@@ -14,7 +14,7 @@ pub struct Bands {
     pub compensation: [f32; 16],
 }
 
-pub fn zero_coeffs() -> BiquadCoeffs
+fn zero_coeffs() -> BiquadCoeffs
     ensures { λ r. ⌜ r ≡ zeroCoeffs ⌝ }
 {
     BiquadCoeffs {

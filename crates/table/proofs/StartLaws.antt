@@ -1,12 +1,12 @@
--- Where the entries start, and the entries that stand there. Assumes nothing.
+-- Where the entries start. Assumes nothing.
 use Prim.Native.Nat.{ℕ, _+_}
 use mathlib.Core.Path.{_≡_, refl, ap, sym, _∙_}
 use mathlib.Core.List.{List, []}
 use mathlib.Core.Bool.{Bool, true, false}
 use lib.ListN.{length}
 use lib.Dec.{leb}
-use Rattle.wire.specs.Parse.{Refusal, refusal, Parsed, ok, refused, asked, then, standing}
-use Rattle.wire.proofs.Many.{went, asked-ok, many-stand, many-length}
+use Rattle.wire.specs.Parse.{Refusal, refusal, Parsed, ok, refused, asked, then}
+use Rattle.wire.proofs.Many.{went, asked-ok, many-length}
 use Rattle.table.proofs.SizeLaws.{header-end}
 use Rattle.table.specs.declared.start.Start.{Start}
 use Rattle.table.specs.Table.{CoeffTable}
@@ -15,22 +15,7 @@ use Rattle.table.specs.Span.{consistent, ruled}
 use Rattle.table.specs.Decode.{decode}
 use Rattle.table.specs.Start.{startOf}
 
--- LAW: an accepted image's entries stand where its entries start
-pub entries-stand : (s : List ℕ) (t : CoeffTable) (e : ℕ) → decode s ≡ ok t e
-    → standing entry 0 (startOf (decode s) .count) s (startOf (decode s) .at) ≡ t .entries
-unfolding decode
-entries-stand s t e h =
-    went (asked (leb (length s) 65536) 0 (refusal 1 0 0)) _ t e h λ x m₁ g₁ h₁.
-    let a = asked-ok (leb (length s) 65536) 0 m₁ (refusal 1 0 0) x g₁ in
-    went (header s m₁) _ t e h₁ λ b m₂ g₂ h₂.
-    went (entries (b .count) s m₂) _ t e h₂ λ es m₃ g₃ h₃.
-    went (ruled (consistent es) m₃) _ t e h₃ λ y m₄ g₄ h₄.
-    let k : header s 0 ≡ ok b m₂ = rw (a .1) g₂ in
-    let r : t ≡ record { version = b .version; name = b .name; entries = es } = cc in
-    let n : length es ≡ b .count = many-length entry s (b .count) 0 m₂ m₃ es g₃ in
-    let p : m₂ ≡ 14 + length (b .name) = header-end s m₂ b k in
-    rw (h, r, n, ← p) (many-stand entry s (b .count) 0 m₂ m₃ es g₃)
-
+-- LAW: where the entries of an accepted image start, by its header
 pub start-is : (s : List ℕ) (d : Header) (at : ℕ) (t : CoeffTable) (e : ℕ) → header s 0 ≡ ok d at → decode s ≡ ok t e
     → startOf (decode s) ≡ record { count = d .count; at = at }
 unfolding decode
