@@ -152,7 +152,10 @@ static const struct sounder_shape shape = {8, 2, 2, 1, 2, 1, 1};
 
 /* the samples that the library gave when it had been compared with the original bit for bit */
 static const uint32_t samples[2][16] = {
-SAMPLES
+    {0xbda04428, 0xbc9eaca0, 0x3bc00076, 0xbe143ddb, 0xbe197ca6, 0xbdca668a, 0xbd84f690, 0x3cd9cbd5,
+     0xbe042252, 0xbb873d78, 0x3d58a348, 0xbe43c3d4, 0xbe411c6a, 0xbdcee7a7, 0xbd48a8b2, 0x3dad62a7},
+    {0xbd6e6f66, 0x3a7386c0, 0x3d449021, 0xbe347d3c, 0xbe6e3c33, 0xbe25b0fd, 0xbdd06f1e, 0x3eb00142,
+     0xbe054b72, 0xbc502ec4, 0x3d8248d1, 0xbe96eda8, 0xbebbcae0, 0xbe840fd3, 0xbe379a17, 0x3ed53274},
 };
 
 /* a block by value and of the voice where it lies: they are one, and the stored samples are played */

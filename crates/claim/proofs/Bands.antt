@@ -23,8 +23,8 @@ use Rattle.making.specs.Making.{isLive, liveBands}
 use Rattle.filters.specs.declared.biquad.BiquadCoeffs.{BiquadCoeffs}
 use Rattle.filters.specs.declared.biquad.BiquadState.{BiquadState}
 use Rattle.voice.proofs.Loops.{length-upTo, upTo-at}
+use Rattle.voice.proofs.MemoryLaws.{length-with, memory-written, memory-kept}
 use Rattle.claim.specs.Machine.{isIn, tick}
-use Rattle.claim.proofs.Memories.{length-written, memory-written, memory-kept}
 
 -- the memories after live band number l has ticked, and band b's memory after it was its turn
 abbrev liveTick : List ℕ → List Float → Float → ℕ → List Float → List Float
@@ -46,10 +46,10 @@ module _ (k : Kind) (es : List PitchEntry) where
     tick-live b n ns h t e T =
         let new = tickOf (memoryAt ns b) x (bandAt lists b) .state in
         let turn : memoryAt (withMemory ns b new) b ≡ bandTick (isLive k es b) lists x ms b =
-        memory-written ns b new (T .size) h ∙ rw (t, T .above b (omega arith)) in
+        memory-written ns b new (omega (arith, T .size)) ∙ rw (t, T .above b (omega arith)) in
         rw e
         (record {
-          size = length-written ns b new ∙ T .size;
+          size = length-with ns b new ∙ T .size;
           below = λ i l.
               ⊎-elim (λ (q : i ≡ b). rw q turn) (λ (q : i < b). memory-kept ns i b new (λ (z : i ≡ b). omega arith) ∙ T .below i q)
               (eq-or-lt-of-le (omega arith));

@@ -27,6 +27,7 @@ use Rattle.voice.specs.Question.{ask, accepted, playQuestion}
 use Rattle.player.specs.Play.{played}
 use Rattle.voice.specs.Restart.{resetOf, reseedOf, reseededState}
 use Rattle.making.specs.Making.{f32, voiceEntries, liveBands, freshVoice, Making}
+use Rattle.voice.proofs.MemoryLaws.{length-with}
 use Rattle.making.proofs.FreshLaws.{fresh-pitches, fresh-stretches, fresh-band}
 use Rattle.filters.specs.declared.rng.Rng.{Rng}
 use Rattle.voice.specs.declared.voice.State.{State}
@@ -34,7 +35,7 @@ use Rattle.voice.specs.declared.voice.Voice.{Voice}
 use Rattle.claim.specs.Machine.{Plain, plainFrom, Machine, Event, frequency, seed, startFrom, advanced, tick, stretchOf, noiseNext, atFrequency, Supplied, supplied, move, machineFrom}
 use Rattle.claim.specs.Calls.{VoiceCall, playing, resetting, reseeding, after, run, fedBy, fed, running, CallsF32}
 use Rattle.claim.proofs.Folds.{take-replicate, getD-padded}
-use Rattle.claim.proofs.Memories.{length-written, memories-first}
+use Rattle.claim.proofs.Memories.{memories-first}
 use Rattle.claim.proofs.Front.{stretch-front}
 use Rattle.claim.proofs.Bands.{live-bands, isIn-live, tick-is}
 use Rattle.claim.proofs.Rules.{VoiceF32, question-call, question-none, rules-kept, after-state, with-32}
@@ -91,7 +92,7 @@ steps-length f h l (suc n) = h n (steps f l n) ∙ steps-length f h l n
 moved-sized : (v : Voice) (f0 : Float) (s : State) → Sized s → Sized (moved v f0 s)
 unfolding moved movedMemories
 moved-sized v f0 s h =
-    pick-sized (eqb (v .set .count) 0) s _ h (record { places = steps-length _ (λ l ms. length-written ms _ _) (s .memories) (v .set .«live_count») ∙ h .places })
+    pick-sized (eqb (v .set .count) 0) s _ h (record { places = steps-length _ (λ l ms. length-with ms _ _) (s .memories) (v .set .«live_count») ∙ h .places })
 
 stateAt-sized : (v : Voice) (freq : ℕ → Float) (n : ℕ) → Sized (v .state) → Sized (stateAt v freq n)
 unfolding stateAt steps

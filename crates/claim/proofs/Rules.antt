@@ -1,7 +1,7 @@
 -- A voice that keeps the rules keeps them after every call; a refused call changes nothing. Assumes nothing.
 use mathlib.Core.Path.{_≡_, refl, sym, _∙_}
 use mathlib.Core.List.{List, [], _∷_}
-use mathlib.Core.Bool.{Bool, true, false, cond, _&&_}
+use mathlib.Core.Bool.{Bool, true, false, cond}
 use Prim.Native.Nat.{ℕ, zero, suc, _+_, _*_, _%_, _≤_, _<_}
 use native.Mathlib.Nat.{suc-add, add-suc, add-zero}
 use native.Mathlib.Omega.{arith}
@@ -13,28 +13,25 @@ use lib.Ieee.Scale.{finite}
 use borrow.Author.Tests.{eqb-false}
 use Rattle.wire.specs.Parse.{pick}
 use Rattle.float.specs.Range.{Within}
-use Rattle.float.proofs.Finite.{shown}
 use Rattle.float.specs.F32.{nearest}
 use Rattle.player.specs.Phase.{Step, advanceOf}
-use Rattle.filters.specs.Rate.{Rate}
-use Rattle.voice.specs.Lists.{mapTo, steps, every}
-use Rattle.voice.specs.Input.{Call, partOf, frequencyAt, frequencyOk, frequenciesOk, cleaned}
-use Rattle.voice.specs.Voice.{pitches, stretches, phaseOk, pitchOk, stretchOk, pitchesAscend, countsOk, entriesOk, phasesOk, rulesOf, keepsRules, withState, firstState}
+use Rattle.voice.specs.Lists.{mapTo, steps}
+use Rattle.voice.specs.Input.{Call, partOf, frequencyAt, frequencyOk, cleaned}
+use Rattle.voice.specs.Voice.{pitches, stretches, phaseOk, pitchOk, stretchOk, countsOk, phasesOk, rulesOf, keepsRules, withState, firstState}
 use Rattle.player.specs.Sound.{sidesAt, stretchAt, stepAt, movedPhases, moved}
 use Rattle.player.specs.Block.{stateAt, blockEnd}
+use Rattle.player.specs.Passes.{EntriesFit}
 use Rattle.voice.specs.Question.{ask, accepted, callQuestion, playQuestion}
 use Rattle.player.specs.Play.{played}
 use Rattle.voice.specs.Restart.{resetOf, reseedOf, reseededState}
 use Rattle.voice.specs.declared.voice.State.{State}
 use Rattle.voice.specs.declared.voice.Voice.{Voice}
-use Rattle.voice.proofs.Loops.{both-true, every-at, at-every}
+use Rattle.voice.proofs.Loops.{every-at, at-every}
 use Rattle.voice.proofs.QuestionLaws.{kept, counts-are, call-accepted}
 use Rattle.player.proofs.PhaseLaws.{step-step}
-use Rattle.filters.proofs.Tests.{rate-is}
 use Rattle.player.proofs.RangeLaws.{advance-ok, phase-passes}
-use Rattle.player.proofs.SoundLaws.{cleaned-within}
+use Rattle.player.proofs.SoundLaws.{cleaned-within, voice-fits, frequencies-fit}
 use Rattle.claim.specs.Calls.{VoiceCall, playing, resetting, reseeding, after, run, AllF32, CallF32, CallsF32}
-use Rattle.claim.proofs.Folds.{AllHave, have-part}
 use Rattle.claim.proofs.Sides.{between-stretch}
 
 -- a cleaned frequency is an f32 value
@@ -47,35 +44,18 @@ pub record VoiceF32 (v : Voice) : Type 0 where
   pub pitches32 : (i : ℕ) → i < v .set .count → T (fits binary32 (getD (pitches v) i nan))
   pub stretches32 : (i : ℕ) → i < v .set .count → T (fits binary32 (getD (stretches v) i nan))
 
--- ---- what question 13 says of all but the running state
-pub record Rules (v : Voice) : Type 0 where
-  pub m-most : v .set .m ≤ 32
-  pub j-most : v .set .j ≤ 16
-  pub pitches-ok : (i : ℕ) → i < v .set .count → pitchOk (getD (pitches v) i nan) ≡ true
-  pub stretches-ok : (i : ℕ) → i < v .set .count → stretchOk (getD (stretches v) i nan) ≡ true
-  pub rate : Rate (v .set .«sample_rate»)
-
-pub rules-of : (v : Voice) → keepsRules v ≡ true → Rules v
-unfolding countsOk entriesOk
-rules-of v h =
-    let a = kept v h in
-    let n = v .set .count in
-    let c = counts-are n (v .set .m) (v .set .j) (v .set .k) (v .set .«live_count») (a .counts) in
-    let p : ℕ → Bool = λ i. pitchOk (getD (pitches v) i nan) in
-    let q : ℕ → Bool = λ i. stretchOk (getD (stretches v) i nan) in
-    let e = both-true (every p n) (pitchesAscend (pitches v) n && every q n) (a .entries) in
-    let f = both-true (pitchesAscend (pitches v) n) (every q n) (e .1) in
-    let r = both-true (le (nearest 8000 1) (v .set .«sample_rate»)) (le (v .set .«sample_rate») (nearest 192000 1)) (a .rate) in
-    record {
-      m-most = omega (arith, c);
-      j-most = omega (arith, c);
-      pitches-ok = λ i l. every-at p n i (e .0) l;
-      stretches-ok = λ i l. every-at q n i (f .1) l;
-      rate = rate-is (v .set .«sample_rate») (shown _ (r .0)) (shown _ (r .1));
-    }
-
+-- ---- what question 13 says
 pub phases-of : (v : Voice) → keepsRules v ≡ true → phasesOk (v .state .phases) (v .set .m) ≡ true
 phases-of v h = kept v h .phases
+
+pub phases-most : (v : Voice) → keepsRules v ≡ true → v .set .m ≤ 32
+phases-most v h = voice-fits v h .entries .sizes .1
+
+pub bands-most : (v : Voice) → keepsRules v ≡ true → v .set .j ≤ 16
+unfolding countsOk
+bands-most v h =
+    let s = v .set in
+    counts-are (s .count) (s .m) (s .j) (s .k) (s .«live_count») (kept v h .counts) .2
 
 -- another running state, whose phases pass
 pub rules-with : (v : Voice) (s : State) → keepsRules v ≡ true → phasesOk (s .phases) (v .set .m) ≡ true → keepsRules (withState v s) ≡ true
@@ -96,12 +76,14 @@ pick-ok : (b : Bool) (s t : State) (m : ℕ) → (b ≡ true → phasesOk (s .ph
 pick-ok true s t m g h = g refl
 pick-ok false s t m g h = h refl
 
-module _ (v : Voice) (R : Rules v) (W : VoiceF32 v) where
+module _ (v : Voice) (E : EntriesFit (v .set) (v .lists)) (W : VoiceF32 v) where
   step-ok : (f0 : Float) (i : ℕ) → 0 < v .set .count → Within 20000 1 f0 → T (fits binary32 f0) → i < v .set .m → Step (stepAt v f0 i)
   unfolding sidesAt
   step-ok f0 i c F F32 l =
-      step-step (i + 1) f0 (stretchAt v f0) (v .set .«sample_rate») (omega (arith, R .m-most)) F
-      (between-stretch (pitches v) f0 (v .set .count) c (R .pitches-ok) (W .pitches32) (F .plain-is) F32 (stretches v) (R .stretches-ok) (W .stretches32)) (R .rate)
+      let n = v .set .count in
+      step-step (i + 1) f0 (stretchAt v f0) (v .set .«sample_rate») (omega (arith, E .sizes)) F
+      (between-stretch (pitches v) f0 n c (λ i. every-at (λ i. pitchOk (getD (pitches v) i nan)) n i (E .pitches-ok)) (W .pitches32) (F .plain-is) F32
+      (stretches v) (λ i. every-at (λ i. stretchOk (getD (stretches v) i nan)) n i (E .stretches-ok)) (W .stretches32)) (E .rate)
 
   movedPhases-ok : (f0 : Float) (ps : List Float) → 0 < v .set .count → Within 20000 1 f0 → T (fits binary32 f0) → phasesOk ps (v .set .m) ≡ true → phasesOk (movedPhases v f0 ps) (v .set .m) ≡ true
   unfolding movedPhases phasesOk
@@ -129,27 +111,25 @@ module _ (v : Voice) (R : Rules v) (W : VoiceF32 v) where
       moved-ok (cleaned (freq n)) (stateAt v freq n) (cleaned-within (freq n) (ok n)) (cleaned-fits (freq n) (ok32 n)) (stateAt-ok freq n ok ok32 h)
 
 -- ---- the frequencies of an accepted play
--- what the frequency of an unconnected input has, and every one of a connected input
-part-has : (P : Float → Type 0) (b : Bool) (k n : ℕ) (fs : List Float) (i : ℕ) → P (nearest 220 1) → (b ≡ false → AllHave P fs)
-    → P (getD (cond b [] (take n (drop k fs))) i (nearest 220 1))
-part-has P true k n fs i p h = p
-part-has P false k n fs i p h = have-part P k n fs i (nearest 220 1) p (h refl)
+-- what is read of a part of f32 values is one, also past its end
+drop-32 : (k : ℕ) (fs : List Float) → AllF32 fs → AllF32 (drop k fs)
+drop-32 zero fs h = h
+drop-32 (suc k) [] h = h
+drop-32 (suc k) (f ∷ fs) h = drop-32 k fs (λ i l. h (suc i) (omega arith))
 
-frequency-has : (P : Float → Type 0) (c : Call) (ch i : ℕ) → P (nearest 220 1) → (eqb (c .shape .freq) 0 ≡ false → AllHave P (c .freq)) → P (frequencyAt c ch i)
-unfolding partOf
-frequency-has P c ch i p h = part-has P (eqb (c .shape .freq) 0) ((ch % c .shape .freq) * c .shape .samples) (c .shape .samples) (c .freq) i p h
+take-fits : (n : ℕ) (fs : List Float) (i : ℕ) → AllF32 fs → T (fits binary32 (getD (take n fs) i (nearest 220 1)))
+take-fits zero fs i h = round-fits binary32 false 220 1
+take-fits (suc n) [] i h = round-fits binary32 false 220 1
+take-fits (suc n) (f ∷ fs) zero h = h 0 (omega arith)
+take-fits (suc n) (f ∷ fs) (suc i) h = take-fits n fs i (λ i l. h (suc i) (omega arith))
 
-default-ok : frequencyOk (nearest 220 1) ≡ true
-unfolding round lt
-default-ok = refl
-
-frequency-ok : (c : Call) (ch i : ℕ) → frequenciesOk (c .shape .freq) (c .freq) ≡ true → frequencyOk (frequencyAt c ch i) ≡ true
-frequency-ok c ch i h =
-    frequency-has (λ f. frequencyOk f ≡ true) c ch i default-ok
-    (λ e j l. every-at (λ i. frequencyOk (getD (c .freq) i nan)) (length (c .freq)) j (rw e at h) l)
+part-fits : (b : Bool) (k n : ℕ) (fs : List Float) (i : ℕ) → AllF32 fs → T (fits binary32 (getD (cond b [] (take n (drop k fs))) i (nearest 220 1)))
+part-fits true k n fs i h = round-fits binary32 false 220 1
+part-fits false k n fs i h = take-fits n (drop k fs) i (drop-32 k fs h)
 
 frequency-fits : (c : Call) (ch i : ℕ) → AllF32 (c .freq) → T (fits binary32 (frequencyAt c ch i))
-frequency-fits c ch i h = frequency-has (λ f. T (fits binary32 f)) c ch i (round-fits binary32 false 220 1) (λ e. h)
+unfolding partOf
+frequency-fits c ch i h = part-fits (eqb (c .shape .freq) 0) ((ch % c .shape .freq) * c .shape .samples) (c .shape .samples) (c .freq) i h
 
 -- ---- a call
 -- with question 13 answered yes, the call's own questions are left
@@ -178,10 +158,11 @@ unfolding after played resetOf reseedOf
 rules-kept v (playing c out) W C h =
     accepted-rules (playQuestion v c (length out)) v (withState v (blockEnd v c)) h
     (λ e.
+    let n = c .shape .samples in
     let A = call-accepted c (length out) (sym (question-call v c (length out) h) ∙ e) in
     rules-with v (blockEnd v c) h
-    (stateAt-ok v (rules-of v h) W (frequencyAt c 0) (c .shape .samples) (λ i. frequency-ok c 0 i (A .frequencies)) (λ i. frequency-fits c 0 i C) (phases-of v h)))
-rules-kept v resetting W C h = accepted-rules (ask (keepsRules v) 13 0) v (withState v firstState) h (λ e. rules-with v firstState h (first-ok (v .set .m) (rules-of v h .m-most)))
+    (stateAt-ok v (voice-fits v h .entries) W (frequencyAt c 0) n (frequencies-fit (c .shape .freq) n 0 (c .freq) (A .frequencies)) (λ i. frequency-fits c 0 i C) (phases-of v h)))
+rules-kept v resetting W C h = accepted-rules (ask (keepsRules v) 13 0) v (withState v firstState) h (λ e. rules-with v firstState h (first-ok (v .set .m) (phases-most v h)))
 rules-kept v (reseeding n) W C h =
     accepted-rules (ask (keepsRules v) 13 0) v (withState v (reseededState (v .state) n)) h (λ e. rules-with v (reseededState (v .state) n) h (phases-of v h))
 

@@ -23,7 +23,7 @@ use Rattle.claim.specs.Calls.{VoiceCall, run, fed, running, CallsF32}
 use Rattle.claim.specs.Claim.{PhasesIn, Claim}
 use Rattle.voice.proofs.Loops.{both-true, every-at}
 use Rattle.claim.proofs.Folds.{getD-padded}
-use Rattle.claim.proofs.Rules.{VoiceF32, rules-of, phases-of, rules-kept-run}
+use Rattle.claim.proofs.Rules.{VoiceF32, phases-of, phases-most, bands-most, rules-kept-run}
 use Rattle.claim.proofs.Moves.{first-sized, view-first, view-run}
 use Rattle.making.proofs.MakingLaws.{Accepted}
 use Rattle.making.proofs.AcceptedLaws.{make-accepted}
@@ -76,11 +76,12 @@ from-fresh m calls C A h =
     let k = m .kind in
     let es = entriesIn m in
     let few = entries-few k es (m .rate) (m .centres) A in
-    let R = rules-of (fresh m) h in
+    let most = bands-most (fresh m) h in
+    let phases = phases-most (fresh m) h in
     let W = fresh-32 k es (m .rate) (m .centres) A in
     let kept : keepsRules (run (fresh m) calls) ≡ true = rules-kept-run (fresh m) calls W C h in
-    let start = view-first k es (m .rate) (m .centres) few (A .as-many) (R .j-most) (R .m-most) in
-    let moves = view-run k es (m .rate) (m .centres) few (A .as-many) (R .j-most) m calls firstState (R .m-most) W C first-sized h in
+    let start = view-first k es (m .rate) (m .centres) few (A .as-many) most phases in
+    let moves = view-run k es (m .rate) (m .centres) few (A .as-many) most m calls firstState phases W C first-sized h in
     let same : running (run (fresh m) calls) ≡ machine (plainOf m) (fed m calls) =
     ap (λ y. y .state) moves ∙ ap (λ s. machineFrom (supplied (plainOf m) s) (fed m calls) .state) start in
     (phases-in (run (fresh m) calls) kept, same, kept)
