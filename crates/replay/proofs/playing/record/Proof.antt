@@ -122,7 +122,7 @@ after-changes-requires c κs = search needs
 
 -- src/playing.rt:318:43
 slice-aggregate-first-2 : tie.Need-slice-aggregate-first-2
-slice-aggregate-first-2 c = c .before .before .before .before .before .before .before .before .before .before .before .before .before .before .before .before .before .before .before .before .before .before .floats-at .ensures
+slice-aggregate-first-2 c = c .before .before .before .before .before .before .before .before .before .before .before .before .before .before .before .before .before .before .before .before .before .before .before .before .before .floats-at .ensures
 
 -- src/playing.rt:318:37
 first-requires-2 : tie.Need-first-requires-2
