@@ -339,7 +339,8 @@ pub fn record(t: Tally, r: &[u8]) -> Tally {
     let centres = floats_at(r, plus(at, 8));
     let n = count(r, plus(at, 4));
     let at = place(place(at, 2), n);
-    let m = sounder_make(word(r, 0), word(r, 4), image, rate, first(&centres, n));
+    let given = first(&centres, n);
+    let m = sounder_make(word(r, 0), word(r, 4), image, rate, given);
     let a = m.answer;
     let v = m.voice;
     let t = made(t, r, at, a);
@@ -349,6 +350,6 @@ pub fn record(t: Tally, r: &[u8]) -> Tally {
         return t;
     }
     let at = after_changes(r, place(at, 3));
-    let t = rung(t, r, at, &v.lists, rate, first(&centres, n));
+    let t = rung(t, r, at, &v.lists, rate, given);
     calls(t, r, place(place(at, n), n), v)
 }
