@@ -33,7 +33,8 @@ fn try_making(image: &[u8], kind: u32, channel: u32, centres: &[f32]) {
         return;
     }
     let voice = made.voice;
-    say_made(voice.m, voice.k, voice.j);
+    let set = voice.set;
+    say_made(set.m, set.k, set.j);
 }
 
 // With as many centres of 1,000 Hz as the voice needs, up to 16. A voice that needs more is refused by its size.

@@ -8,29 +8,14 @@ use crate::tally::same;
 use crate::tally::same_count;
 use crate::tally::same_float;
 use voice::BiquadCoeffs;
-use voice::BiquadState;
 use voice::Rng;
+use voice::Setting;
 use voice::State;
 use voice::Voice;
 
 // The voice that is all zero.
 pub fn blank() -> Voice {
-    let coeffs = BiquadCoeffs {
-        b0: 0.0,
-        b1: 0.0,
-        b2: 0.0,
-        a1: 0.0,
-        a2: 0.0,
-    };
-    let memory = BiquadState { z1: 0.0, z2: 0.0 };
-    let memories = [memory; 16];
-    let state = State {
-        phases: [0.0; 32],
-        memories,
-        rng: Rng { state: 0 },
-    };
-    let bands = [coeffs; 16];
-    Voice {
+    let set = Setting {
         blend: 0,
         channel: 0,
         count: 0,
@@ -38,137 +23,80 @@ pub fn blank() -> Voice {
         m: 0,
         j: 0,
         live_count: 0,
-        live: [0; 16],
         sample_rate: 0.0,
-        f0_hz: [0.0; 16],
-        stretch: [0.0; 16],
-        mainlobe_gain: [0.0; 16],
-        noise_gain: [0.0; 16],
+        live: [0; 16],
+    };
+    let state = State {
+        phases: [0.0; 32],
+        memories: [0.0; 32],
+        rng: Rng { state: 0 },
+    };
+    Voice {
+        set,
+        lists: [0.0; 160],
         partials: [0.0; 2048],
         noise: [0.0; 1024],
-        bands,
-        compensation: [0.0; 16],
         state,
     }
 }
 
-// The numbers that stand alone: fields 0 to 6, and 8.
-fn set_count(mut v: Voice, field: u32, n: u32) -> Voice {
-    match field {
-        0 => {
-            v.blend = n;
-            v
-        }
-        1 => {
-            v.channel = n;
-            v
-        }
-        2 => {
-            v.count = n as usize;
-            v
-        }
-        3 => {
-            v.k = n as usize;
-            v
-        }
-        4 => {
-            v.m = n as usize;
-            v
-        }
-        5 => {
-            v.j = n as usize;
-            v
-        }
-        6 => {
-            v.live_count = n as usize;
-            v
-        }
-        _ => {
-            v.sample_rate = float::from_bits(n);
-            v
-        }
-    }
-}
-
-// Sixteen of each: fields 7, 9 to 12, and 20.
-fn set_entry(mut v: Voice, field: u32, i: usize, n: u32) -> Voice {
+// Where place i of a field stands, of the fields that have 16: a short list (9 to 12, 20), a coefficient of each band (15 to 19),
+// a memory of each band (22, 23). Past the end where there is none.
+fn place_of(field: u32, i: usize) -> usize {
     if 16 <= i {
-        return v;
+        return usize::MAX;
     }
     match field {
+        10 => 16 + i,
+        11 => 32 + i,
+        12 => 48 + i,
+        15 => 64 + i * 5,
+        16 => 65 + i * 5,
+        17 => 66 + i * 5,
+        18 => 67 + i * 5,
+        19 => 68 + i * 5,
+        20 => 144 + i,
+        22 => i * 2,
+        23 => i * 2 + 1,
+        _ => i,
+    }
+}
+
+// What stands there; 0 past the end.
+fn float_of(list: &[f32], field: u32, i: usize) -> f32 {
+    let at = place_of(field, i);
+    if at < list.len() { list[at] } else { 0.0 }
+}
+
+// The coefficients of band i.
+pub fn band(lists: &[f32], i: usize) -> BiquadCoeffs {
+    BiquadCoeffs {
+        b0: float_of(lists, 15, i),
+        b1: float_of(lists, 16, i),
+        b2: float_of(lists, 17, i),
+        a1: float_of(lists, 18, i),
+        a2: float_of(lists, 19, i),
+    }
+}
+
+// A voice's numbers: fields 0 to 8.
+fn set_number(mut s: Setting, field: u32, i: usize, n: u32) -> Setting {
+    match field {
+        0 => s.blend = n,
+        1 => s.channel = n,
+        2 => s.count = n as usize,
+        3 => s.k = n as usize,
+        4 => s.m = n as usize,
+        5 => s.j = n as usize,
+        6 => s.live_count = n as usize,
         7 => {
-            v.live[i] = n as usize;
-            v
+            if i < 16 {
+                s.live[i] = n as usize;
+            }
         }
-        9 => {
-            v.f0_hz[i] = float::from_bits(n);
-            v
-        }
-        10 => {
-            v.stretch[i] = float::from_bits(n);
-            v
-        }
-        11 => {
-            v.mainlobe_gain[i] = float::from_bits(n);
-            v
-        }
-        12 => {
-            v.noise_gain[i] = float::from_bits(n);
-            v
-        }
-        _ => {
-            v.compensation[i] = float::from_bits(n);
-            v
-        }
+        _ => s.sample_rate = float::from_bits(n),
     }
-}
-
-// Coefficients of partials and of bands: fields 13 and 14.
-fn set_coeff(mut v: Voice, field: u32, i: usize, x: f32) -> Voice {
-    if field == 13 {
-        if i < 2048 {
-            v.partials[i] = x;
-        }
-        return v;
-    }
-    if i < 1024 {
-        v.noise[i] = x;
-    }
-    v
-}
-
-fn set_coefficient(mut c: BiquadCoeffs, field: u32, x: f32) -> BiquadCoeffs {
-    match field {
-        15 => {
-            c.b0 = x;
-            c
-        }
-        16 => {
-            c.b1 = x;
-            c
-        }
-        17 => {
-            c.b2 = x;
-            c
-        }
-        18 => {
-            c.a1 = x;
-            c
-        }
-        _ => {
-            c.a2 = x;
-            c
-        }
-    }
-}
-
-// The five coefficients of a band: fields 15 to 19.
-fn set_band(mut v: Voice, field: u32, i: usize, x: f32) -> Voice {
-    if i < 16 {
-        let c = v.bands[i];
-        v.bands[i] = set_coefficient(c, field, x);
-    }
-    v
+    s
 }
 
 // The running state: fields 21 to 24.
@@ -185,16 +113,32 @@ fn set_state(mut s: State, field: u32, i: usize, n: u32) -> State {
         s.rng = rng;
         return s;
     }
-    if i < 16 {
-        let mut z = s.memories[i];
-        if field == 22 {
-            z.z1 = x;
-        } else {
-            z.z2 = x;
-        }
-        s.memories[i] = z;
+    let at = place_of(field, i);
+    if at < 32 {
+        s.memories[at] = x;
     }
     s
+}
+
+// Coefficients of partials and of noise, fields 13 and 14, and the short lists.
+fn set_float(mut v: Voice, field: u32, i: usize, x: f32) -> Voice {
+    if field == 13 {
+        if i < 2048 {
+            v.partials[i] = x;
+        }
+        return v;
+    }
+    if field == 14 {
+        if i < 1024 {
+            v.noise[i] = x;
+        }
+        return v;
+    }
+    let at = place_of(field, i);
+    if at < 160 {
+        v.lists[at] = x;
+    }
+    v
 }
 
 // A change: the place is field × 65536 + index.
@@ -202,10 +146,12 @@ fn set(mut v: Voice, at: u32, n: u32) -> Voice {
     let field = at / 65536;
     let i = (at % 65536) as usize;
     match field {
-        0..=6 | 8 => set_count(v, field, n),
-        13 | 14 => set_coeff(v, field, i, float::from_bits(n)),
-        15..=19 => set_band(v, field, i, float::from_bits(n)),
-        7 | 9..=12 | 20 => set_entry(v, field, i, n),
+        0..=8 => {
+            let s = v.set;
+            v.set = set_number(s, field, i, n);
+            v
+        }
+        9..=20 => set_float(v, field, i, float::from_bits(n)),
         _ => {
             let s = v.state;
             v.state = set_state(s, field, i, n);
@@ -237,12 +183,14 @@ pub fn after_changes(r: &[u8], at: usize) -> usize {
 
 // A blend's coefficients past its phases are 0 or -0 and never read; the original drops them.
 pub fn without_unread(mut v: Voice) -> Voice {
-    if v.blend == 0 {
+    let set = v.set;
+    if set.blend == 0 {
         return v;
     }
+    let m = set.m;
     let mut i = 0;
     while i < 2048 {
-        if v.m <= i % 32 {
+        if m <= i % 32 {
             if v.partials[i] == 0.0 {
                 v.partials[i] = 0.0;
             }
@@ -272,48 +220,24 @@ fn same_live(t: Tally, ours: [usize; 16], theirs: [usize; 16]) -> Tally {
     t
 }
 
-fn same_band(t: Tally, i: usize, ours: BiquadCoeffs, theirs: BiquadCoeffs) -> Tally {
-    let t = same_float(t, b"b0", i, ours.b0, theirs.b0);
-    let t = same_float(t, b"b1", i, ours.b1, theirs.b1);
-    let t = same_float(t, b"b2", i, ours.b2, theirs.b2);
-    let t = same_float(t, b"a1", i, ours.a1, theirs.a1);
-    same_float(t, b"a2", i, ours.a2, theirs.a2)
-}
-
-fn same_bands(t: Tally, ours: [BiquadCoeffs; 16], theirs: [BiquadCoeffs; 16]) -> Tally {
+// The places of a field that has 16.
+fn same_field(t: Tally, what: &[u8], field: u32, ours: &[f32], theirs: &[f32]) -> Tally {
     let mut t = t;
     let mut i = 0;
     while i < 16 {
-        t = same_band(t, i, ours[i], theirs[i]);
+        t = same_float(
+            t,
+            what,
+            i,
+            float_of(ours, field, i),
+            float_of(theirs, field, i),
+        );
         i += 1;
     }
     t
 }
 
-fn same_memory(t: Tally, i: usize, ours: BiquadState, theirs: BiquadState) -> Tally {
-    let t = same_float(t, b"z1", i, ours.z1, theirs.z1);
-    same_float(t, b"z2", i, ours.z2, theirs.z2)
-}
-
-fn same_memories(t: Tally, ours: [BiquadState; 16], theirs: [BiquadState; 16]) -> Tally {
-    let mut t = t;
-    let mut i = 0;
-    while i < 16 {
-        t = same_memory(t, i, ours[i], theirs[i]);
-        i += 1;
-    }
-    t
-}
-
-fn same_state(t: Tally, ours: State, theirs: State) -> Tally {
-    let t = same_floats(t, b"phases", &ours.phases, &theirs.phases);
-    let a = ours.memories;
-    let b = theirs.memories;
-    let t = same_memories(t, a, b);
-    same(t, b"noise number", 0, ours.rng.state, theirs.rng.state)
-}
-
-fn same_counts(t: Tally, ours: Voice, theirs: Voice) -> Tally {
+fn same_numbers(t: Tally, ours: Setting, theirs: Setting) -> Tally {
     let t = same(t, b"blend", 0, ours.blend, theirs.blend);
     let t = same(t, b"channel", 0, ours.channel, theirs.channel);
     let t = same_count(t, b"count", 0, ours.count, theirs.count);
@@ -327,27 +251,35 @@ fn same_counts(t: Tally, ours: Voice, theirs: Voice) -> Tally {
     same_float(t, b"sample_rate", 0, ours.sample_rate, theirs.sample_rate)
 }
 
-fn same_entries(t: Tally, ours: Voice, theirs: Voice) -> Tally {
-    let t = same_floats(t, b"f0_hz", &ours.f0_hz, &theirs.f0_hz);
-    let t = same_floats(t, b"stretch", &ours.stretch, &theirs.stretch);
-    let t = same_floats(
-        t,
-        b"mainlobe_gain",
-        &ours.mainlobe_gain,
-        &theirs.mainlobe_gain,
-    );
-    let t = same_floats(t, b"noise_gain", &ours.noise_gain, &theirs.noise_gain);
-    let t = same_floats(t, b"partials", &ours.partials, &theirs.partials);
-    same_floats(t, b"noise", &ours.noise, &theirs.noise)
+fn same_lists(t: Tally, ours: &[f32], theirs: &[f32]) -> Tally {
+    let t = same_field(t, b"f0_hz", 9, ours, theirs);
+    let t = same_field(t, b"stretch", 10, ours, theirs);
+    let t = same_field(t, b"mainlobe_gain", 11, ours, theirs);
+    let t = same_field(t, b"noise_gain", 12, ours, theirs);
+    let t = same_field(t, b"b0", 15, ours, theirs);
+    let t = same_field(t, b"b1", 16, ours, theirs);
+    let t = same_field(t, b"b2", 17, ours, theirs);
+    let t = same_field(t, b"a1", 18, ours, theirs);
+    let t = same_field(t, b"a2", 19, ours, theirs);
+    same_field(t, b"compensation", 20, ours, theirs)
+}
+
+fn same_state(t: Tally, ours: State, theirs: State) -> Tally {
+    let t = same_floats(t, b"phases", &ours.phases, &theirs.phases);
+    let t = same_field(t, b"z1", 22, &ours.memories, &theirs.memories);
+    let t = same_field(t, b"z2", 23, &ours.memories, &theirs.memories);
+    same(t, b"noise number", 0, ours.rng.state, theirs.rng.state)
 }
 
 // Compares every place of two voices.
 pub fn same_voice(t: Tally, ours: Voice, theirs: Voice) -> Tally {
-    let t = same_counts(t, ours, theirs);
-    let t = same_entries(t, ours, theirs);
-    let a = ours.bands;
-    let b = theirs.bands;
-    let t = same_bands(t, a, b);
-    let t = same_floats(t, b"compensation", &ours.compensation, &theirs.compensation);
-    same_state(t, ours.state, theirs.state)
+    let a = ours.set;
+    let b = theirs.set;
+    let t = same_numbers(t, a, b);
+    let t = same_lists(t, &ours.lists, &theirs.lists);
+    let t = same_floats(t, b"partials", &ours.partials, &theirs.partials);
+    let t = same_floats(t, b"noise", &ours.noise, &theirs.noise);
+    let a = ours.state;
+    let b = theirs.state;
+    same_state(t, a, b)
 }

@@ -10,6 +10,7 @@ use crate::list::place;
 use crate::list::plus;
 use crate::list::word;
 use crate::places::after_changes;
+use crate::places::band;
 use crate::places::blank;
 use crate::places::changed;
 use crate::places::same_voice;
@@ -28,6 +29,7 @@ use sounder::voices::sounder_make;
 use sounder::voices::sounder_play;
 use sounder::voices::sounder_reseed;
 use sounder::voices::sounder_reset;
+use voice::Shape;
 use voice::Voice;
 
 // What a call leaves: the counts, the voice that the list goes on with, and where the next call stands.
@@ -112,43 +114,68 @@ fn concluded(
     }
 }
 
+// Where a play's inputs stand, and what is after them: the output's channels.
+struct Inputs {
+    freq: usize,
+    g0: usize,
+    g1: usize,
+    g2: usize,
+    g3: usize,
+    end: usize,
+}
+
+fn inputs_at(r: &[u8], at: usize) -> Inputs {
+    let g0 = after_input(r, at);
+    let g1 = after_input(r, g0);
+    let g2 = after_input(r, g1);
+    let g3 = after_input(r, g2);
+    Inputs {
+        freq: at,
+        g0,
+        g1,
+        g2,
+        g3,
+        end: after_input(r, g3),
+    }
+}
+
+// The block's numbers: its samples stand before the inputs.
+fn shape_at(r: &[u8], at: usize, inputs: Inputs) -> Shape {
+    Shape {
+        samples: count(r, at),
+        channels: count(r, inputs.end),
+        freq: count(r, inputs.freq),
+        g0: count(r, inputs.g0),
+        g1: count(r, inputs.g1),
+        g2: count(r, inputs.g2),
+        g3: count(r, inputs.g3),
+    }
+}
+
 // The play whose arguments stand at a position: samples, frequency, four gains, channels.
 fn play_into(given: Voice, r: &[u8], at: usize, out: &mut [f32]) -> PlayedAnswer {
-    let at_freq = plus(at, 4);
-    let at_0 = after_input(r, at_freq);
-    let at_1 = after_input(r, at_0);
-    let at_2 = after_input(r, at_1);
-    let at_3 = after_input(r, at_2);
-    let freq = floats_at(r, plus(at_freq, 8));
-    let g0 = floats_at(r, plus(at_0, 8));
-    let g1 = floats_at(r, plus(at_1, 8));
-    let g2 = floats_at(r, plus(at_2, 8));
-    let g3 = floats_at(r, plus(at_3, 8));
+    let inputs = inputs_at(r, plus(at, 4));
+    let freq = floats_at(r, plus(inputs.freq, 8));
+    let g0 = floats_at(r, plus(inputs.g0, 8));
+    let g1 = floats_at(r, plus(inputs.g1, 8));
+    let g2 = floats_at(r, plus(inputs.g2, 8));
+    let g3 = floats_at(r, plus(inputs.g3, 8));
     sounder_play(
         given,
-        count(r, at),
-        count(r, at_freq),
-        first(&freq, count(r, plus(at_freq, 4))),
-        count(r, at_0),
-        first(&g0, count(r, plus(at_0, 4))),
-        count(r, at_1),
-        first(&g1, count(r, plus(at_1, 4))),
-        count(r, at_2),
-        first(&g2, count(r, plus(at_2, 4))),
-        count(r, at_3),
-        first(&g3, count(r, plus(at_3, 4))),
-        count(r, after_input(r, at_3)),
+        shape_at(r, at, inputs),
+        first(&freq, count(r, plus(inputs.freq, 4))),
+        first(&g0, count(r, plus(inputs.g0, 4))),
+        first(&g1, count(r, plus(inputs.g1, 4))),
+        first(&g2, count(r, plus(inputs.g2, 4))),
+        first(&g3, count(r, plus(inputs.g3, 4))),
         out,
     )
 }
 
 // Where the output's length stands: after samples, five inputs and channels.
 fn after_inputs(r: &[u8], at: usize) -> usize {
-    let at_0 = after_input(r, plus(at, 4));
-    let at_1 = after_input(r, at_0);
-    let at_2 = after_input(r, at_1);
-    let at_3 = after_input(r, at_2);
-    plus(after_input(r, at_3), 4)
+    let inputs = inputs_at(r, plus(at, 4));
+    plus(inputs.end, 4)
 }
 
 // The play's samples: the list's, or those that stood there before where it is refused.
@@ -268,10 +295,10 @@ fn rung_band(
 }
 
 // Those of each band, from a position on.
-fn rung(t: Tally, r: &[u8], at: usize, v: Voice, rate: f32, centres: &[f32]) -> Tally {
+fn rung(t: Tally, r: &[u8], at: usize, lists: &[f32], rate: f32, centres: &[f32]) -> Tally {
     let mut t = t;
     let mut i = 0;
-    while i < centres.len() && i < 16 {
+    while i < centres.len() {
         t = rung_band(
             t,
             r,
@@ -279,7 +306,7 @@ fn rung(t: Tally, r: &[u8], at: usize, v: Voice, rate: f32, centres: &[f32]) -> 
             i,
             centres[i],
             rate,
-            v.bands[i],
+            band(lists, i),
         );
         i += 1;
     }
@@ -312,7 +339,8 @@ pub fn record(t: Tally, r: &[u8]) -> Tally {
     let centres = floats_at(r, plus(at, 8));
     let n = count(r, plus(at, 4));
     let at = place(place(at, 2), n);
-    let m = sounder_make(word(r, 0), word(r, 4), image, rate, first(&centres, n));
+    let given = first(&centres, n);
+    let m = sounder_make(word(r, 0), word(r, 4), image, rate, given);
     let a = m.answer;
     let v = m.voice;
     let t = made(t, r, at, a);
@@ -322,6 +350,6 @@ pub fn record(t: Tally, r: &[u8]) -> Tally {
         return t;
     }
     let at = after_changes(r, place(at, 3));
-    let t = rung(t, r, at, v, rate, first(&centres, n));
+    let t = rung(t, r, at, &v.lists, rate, given);
     calls(t, r, place(place(at, n), n), v)
 }

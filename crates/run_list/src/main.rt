@@ -3,6 +3,7 @@ mod images;
 
 use sounder::voices::sounder_make;
 use sounder::voices::sounder_play;
+use voice::Shape;
 use voice::Voice;
 
 fn say(what: &[u8], number: u32) {
@@ -35,22 +36,16 @@ fn played(
     let g1: [f32; 1] = [0.0; 1];
     let g2: [f32; 1] = [0.0; 1];
     let g3: [f32; 1] = [0.0; 1];
-    let p = sounder_play(
-        voice,
+    let shape = Shape {
         samples,
-        freq_channels,
-        freq,
-        gain_channels,
-        gain,
-        0,
-        &g1[..0],
-        0,
-        &g2[..0],
-        0,
-        &g3[..0],
         channels,
-        out,
-    );
+        freq: freq_channels,
+        g0: gain_channels,
+        g1: 0,
+        g2: 0,
+        g3: 0,
+    };
+    let p = sounder_play(voice, shape, freq, gain, &g1[..0], &g2[..0], &g3[..0], out);
     say(what, p.number);
     if 0 < out.len() {
         let y = out[0];
@@ -139,8 +134,10 @@ fn blocks() {
     in_block(b"an input too long", v, 8, 1, &f[..9], 0, &g[..0], 1, 8);
     in_block(b"a gain too short", v, 8, 0, &f[..0], 2, &g[..15], 1, 8);
     in_block(b"a gain of 9 channels", v, 1, 0, &f[..0], 9, &g[..9], 1, 1);
+    let mut set = v.set;
+    set.m = 33;
     let mut broken = v;
-    broken.m = 33;
+    broken.set = set;
     in_block(
         b"a voice of 33 phases",
         broken,

@@ -87,7 +87,8 @@ fn play_image(o: Options, image: &[u8], centres: &[f32]) {
         return;
     }
     let voice = made.voice;
-    describe(image, read.first, voice.m, voice.j);
+    let set = voice.set;
+    describe(image, read.first, set.m, set.j);
     if o.seeded {
         let again = sounder_reseed(voice, o.seed);
         let seeded = again.voice;

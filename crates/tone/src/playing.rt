@@ -5,6 +5,7 @@ use crate::options::Options;
 use crate::sink::Sink;
 use crate::sink::send;
 use sounder::voices::sounder_play;
+use voice::Shape;
 use voice::Voice;
 
 // How far the playing has come: the voice, the bytes sent, the largest magnitude as a pattern, and the number of a refusal (0: none).
@@ -96,6 +97,19 @@ fn connected(o: Options, gain: usize) -> usize {
     if gain < o.gains { 1 } else { 0 }
 }
 
+// A block of one channel; where no pitch or gain was given, the input is unconnected.
+fn shape(o: Options, samples: usize) -> Shape {
+    Shape {
+        samples,
+        channels: 1,
+        freq: o.freq_given,
+        g0: connected(o, 0),
+        g1: connected(o, 1),
+        g2: connected(o, 2),
+        g3: connected(o, 3),
+    }
+}
+
 // Plays the n samples from `first` on, and writes them. n is at most 128.
 pub fn block(o: Options, fd: i32, run: Run, first: u32, total: u32, n: usize) -> Run {
     if 128 < n {
@@ -111,18 +125,12 @@ pub fn block(o: Options, fd: i32, run: Run, first: u32, total: u32, n: usize) ->
     let voice = run.voice;
     let p = sounder_play(
         voice,
-        n,
-        o.freq_given,
+        shape(o, n),
         &f[..n],
-        connected(o, 0),
         &g0[..n],
-        connected(o, 1),
         &g1[..n],
-        connected(o, 2),
         &g2[..n],
-        connected(o, 3),
         &g3[..n],
-        1,
         &mut out[..n],
     );
     let after = p.voice;

@@ -7,10 +7,10 @@ use Rattle.replay.proofs.places.without_unread.Reads as reads
 use Rattle.replay.proofs.places.without_unread.Lts as lts
 
 abbrev Inv-loop : tie.InvT-loop
-Inv-loop v₀ i₀ v i = i ≤ 2048
+Inv-loop m v₀ i₀ v i = i ≤ 2048
 
 abbrev μ-loop : tie.MeasureT-loop
-μ-loop v₀ i₀ v i = 2048 - i
+μ-loop m v₀ i₀ v i = 2048 - i
 
 -- src/places.rt:241:9
 returns : tie.Need-returns Inv-loop μ-loop

@@ -7,65 +7,58 @@ use Rattle.replay.proofs.playing.rung.Tie as tie
 use Rattle.replay.proofs.playing.rung.Reads as reads
 use Rattle.replay.proofs.playing.rung.Lts as lts
 use Rattle.replay.proofs.list.place.Reads as place-reads
+use Rattle.replay.proofs.places.band.Reads as band-reads
 use Rattle.replay.proofs.playing.rung_band.Reads as rung-band-reads
 
 abbrev Inv-loop : tie.InvT-loop
-Inv-loop r at rate centres v t₀ i₀ t i = i ≤ length centres
+Inv-loop r at lists rate centres t₀ i₀ t i = i ≤ length centres
 
 abbrev μ-loop : tie.MeasureT-loop
-μ-loop r at rate centres v t₀ i₀ t i = length centres - i
+μ-loop r at lists rate centres t₀ i₀ t i = length centres - i
 
--- src/playing.rt:267:5
+-- src/playing.rt:301:5
 loop-holds : tie.Need-loop-holds Inv-loop μ-loop
 loop-holds c = search needs
 
--- src/playing.rt:271:19
+-- src/playing.rt:305:19
 place-requires : tie.Need-place-requires Inv-loop μ-loop
 place-requires c κs = search needs
 
--- src/playing.rt:271:13
+-- src/playing.rt:305:13
 place-requires-2 : tie.Need-place-requires-2 Inv-loop μ-loop
 place-requires-2 c κs = search needs
 
--- src/playing.rt:273:13
+-- src/playing.rt:307:13
 mul-rung-band : tie.Need-mul-rung-band Inv-loop μ-loop
 mul-rung-band c = search needs
 
--- src/playing.rt:273:13
+-- src/playing.rt:307:13
 shared-slice-read-rung-band : tie.Need-shared-slice-read-rung-band Inv-loop μ-loop
 shared-slice-read-rung-band c = search needs
 
--- src/playing.rt:275:13
-mul-rung-band-2 : tie.Need-mul-rung-band-2 Inv-loop μ-loop
-mul-rung-band-2 c = search needs
+-- src/playing.rt:309:13
+band-requires : tie.Need-band-requires Inv-loop μ-loop
+band-requires c κs = search needs
 
--- src/playing.rt:275:13
-element-copy-out-rung-band : tie.Need-element-copy-out-rung-band Inv-loop μ-loop
-element-copy-out-rung-band c = search needs
-
--- src/playing.rt:268:9
+-- src/playing.rt:302:9
 rung-band-requires : tie.Need-rung-band-requires Inv-loop μ-loop
 rung-band-requires c κs = search needs
 
--- src/playing.rt:277:9
+-- src/playing.rt:311:9
 add-i : tie.Need-add-i Inv-loop μ-loop
-add-i c = search needs
+add-i c = search (needs, c .before .before .before .before .before .before .before .before .before .before .good .1 .1 .1 .1 .1 .0)
 
--- src/playing.rt:267:5
+-- src/playing.rt:301:5
 loop-less : tie.Need-loop-less Inv-loop μ-loop
 loop-less c = search needs
 
--- src/playing.rt:267:5
+-- src/playing.rt:301:5
 loop-again : tie.Need-loop-again Inv-loop μ-loop
 loop-again c = search needs
 
--- src/playing.rt:264:1
+-- src/playing.rt:298:1
 returns : tie.Need-returns Inv-loop μ-loop
 returns c = search needs
-
--- src/playing.rt:264:1
-returns-2 : tie.Need-returns-2 Inv-loop μ-loop
-returns-2 c = search needs
 
 pub rung-spec : {M : Type 1} → statement M
 rung-spec =
@@ -78,11 +71,9 @@ rung-spec =
     place-requires-2
     mul-rung-band
     shared-slice-read-rung-band
-    mul-rung-band-2
-    element-copy-out-rung-band
+    band-requires
     rung-band-requires
     add-i
     loop-less
     loop-again
-    returns
-    returns-2)
+    returns)

@@ -17,7 +17,7 @@ use Rattle.replay.proofs.reading.target_of.Reads as target-of-reads
 use Rattle.replay.proofs.tally.answered.Reads as answered-reads
 use Rattle.replay.proofs.tally.narrow.Reads as narrow-reads
 use Rattle.replay.proofs.tally.same.Reads as same-reads
-use Rattle.sounder.proofs.table_door.sounder_to_bytes.Reads as sounder-to-bytes-reads
+use Rattle.sounder.proofs.images.sounder_to_bytes.Reads as sounder-to-bytes-reads
 
 -- src/reading.rt:128:9
 bytes-at-requires : tie.Need-bytes-at-requires

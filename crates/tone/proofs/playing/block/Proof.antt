@@ -5,11 +5,11 @@ use Rattle.tone.proofs.playing.block.Statement.{statement}
 use Rattle.tone.proofs.playing.block.Tie as tie
 use Rattle.tone.proofs.playing.block.Reads as reads
 use Rattle.tone.proofs.playing.block.Lts as lts
-use Rattle.sounder.proofs.player_door.sounder_play.Reads as sounder-play-reads
+use Rattle.sounder.proofs.voices.sounder_play.Reads as sounder-play-reads
 use Rattle.tone.proofs.playing.bytes_of.Reads as bytes-of-reads
-use Rattle.tone.proofs.playing.connected.Reads as connected-reads
 use Rattle.tone.proofs.playing.frequencies.Reads as frequencies-reads
 use Rattle.tone.proofs.playing.peak_of.Reads as peak-of-reads
+use Rattle.tone.proofs.playing.shape.Reads as shape-reads
 use Rattle.tone.proofs.playing.steady.Reads as steady-reads
 use Rattle.tone.proofs.sink.send.Reads as send-reads
 
@@ -57,6 +57,10 @@ steady-requires-4 c κs = search needs
 steady-requires-5 : tie.Need-steady-requires-5
 steady-requires-5 c κs = search needs
 
+-- src/playing.rt:128:9
+shape-requires : tie.Need-shape-requires
+shape-requires c κs = search needs
+
 -- src/playing.rt:107:9
 array-share-prefix-f : tie.Need-array-share-prefix-f
 array-share-prefix-f c = search needs
@@ -64,13 +68,9 @@ array-share-prefix-f c = search needs
 -- src/playing.rt:107:9
 slice-aggregate-sounder-play : tie.Need-slice-aggregate-sounder-play
 slice-aggregate-sounder-play c =
-    let b8 = c .before .before .before .before .before .before .before .before in
-    let b9 = b8 .before in
-    part-length _ _ 128 (b8 .frequencies .ensures) (b9 .if1 .left)
-
--- src/playing.rt:108:9
-connected-requires : tie.Need-connected-requires
-connected-requires c κs = search needs
+    let b9 = c .before .before .before .before .before .before .before .before .before in
+    let b10 = b9 .before in
+    part-length _ _ 128 (b9 .frequencies .ensures) (b10 .if1 .left)
 
 -- src/playing.rt:109:9
 array-share-prefix-g0 : tie.Need-array-share-prefix-g0
@@ -83,10 +83,6 @@ slice-aggregate-sounder-play-2 c =
     let b11 = b8 .before .before .before in
     part-length _ _ 128 (b8 .steady .ensures) (b11 .if1 .left)
 
--- src/playing.rt:110:9
-connected-requires-2 : tie.Need-connected-requires-2
-connected-requires-2 c κs = search needs
-
 -- src/playing.rt:111:9
 array-share-prefix-g1 : tie.Need-array-share-prefix-g1
 array-share-prefix-g1 c = search needs
@@ -94,13 +90,9 @@ array-share-prefix-g1 c = search needs
 -- src/playing.rt:111:9
 slice-aggregate-sounder-play-3 : tie.Need-slice-aggregate-sounder-play-3
 slice-aggregate-sounder-play-3 c =
-    let b9 = c .before .before .before .before .before .before .before .before .before in
-    let b13 = b9 .before .before .before .before in
-    part-length _ _ 128 (b9 .steady2 .ensures) (b13 .if1 .left)
-
--- src/playing.rt:112:9
-connected-requires-3 : tie.Need-connected-requires-3
-connected-requires-3 c κs = search needs
+    let b8 = c .before .before .before .before .before .before .before .before in
+    let b12 = b8 .before .before .before .before in
+    part-length _ _ 128 (b8 .steady2 .ensures) (b12 .if1 .left)
 
 -- src/playing.rt:113:9
 array-share-prefix-g2 : tie.Need-array-share-prefix-g2
@@ -109,13 +101,9 @@ array-share-prefix-g2 c = search needs
 -- src/playing.rt:113:9
 slice-aggregate-sounder-play-4 : tie.Need-slice-aggregate-sounder-play-4
 slice-aggregate-sounder-play-4 c =
-    let b10 = c .before .before .before .before .before .before .before .before .before .before in
-    let b15 = b10 .before .before .before .before .before in
-    part-length _ _ 128 (b10 .steady3 .ensures) (b15 .if1 .left)
-
--- src/playing.rt:114:9
-connected-requires-4 : tie.Need-connected-requires-4
-connected-requires-4 c κs = search needs
+    let b8 = c .before .before .before .before .before .before .before .before in
+    let b13 = b8 .before .before .before .before .before in
+    part-length _ _ 128 (b8 .steady3 .ensures) (b13 .if1 .left)
 
 -- src/playing.rt:115:9
 array-share-prefix-g3 : tie.Need-array-share-prefix-g3
@@ -124,9 +112,9 @@ array-share-prefix-g3 c = search needs
 -- src/playing.rt:115:9
 slice-aggregate-sounder-play-5 : tie.Need-slice-aggregate-sounder-play-5
 slice-aggregate-sounder-play-5 c =
-    let b11 = c .before .before .before .before .before .before .before .before .before .before .before in
-    let b17 = b11 .before .before .before .before .before .before in
-    part-length _ _ 128 (b11 .steady4 .ensures) (b17 .if1 .left)
+    let b8 = c .before .before .before .before .before .before .before .before in
+    let b14 = b8 .before .before .before .before .before .before in
+    part-length _ _ 128 (b8 .steady4 .ensures) (b14 .if1 .left)
 
 -- src/playing.rt:117:9
 array-borrow-prefix-out : tie.Need-array-borrow-prefix-out
@@ -135,9 +123,9 @@ array-borrow-prefix-out c = search needs
 -- src/playing.rt:117:9
 slice-aggregate-sounder-play-6 : tie.Need-slice-aggregate-sounder-play-6
 slice-aggregate-sounder-play-6 c =
-    let b11 = c .before .before .before .before .before .before .before .before .before .before .before in
-    let b18 = b11 .before .before .before .before .before .before .before in
-    part-length _ _ 128 (b11 .steady5 .ensures) (b18 .if1 .left)
+    let b8 = c .before .before .before .before .before .before .before .before in
+    let b15 = b8 .before .before .before .before .before .before .before in
+    part-length _ _ 128 (b8 .steady5 .ensures) (b15 .if1 .left)
 
 -- src/playing.rt:103:9
 sounder-play-requires : tie.Need-sounder-play-requires
@@ -150,22 +138,22 @@ bytes-of-requires c κs = search needs
 -- src/playing.rt:121:13
 mul-k : tie.Need-mul-k
 mul-k c =
-    let b23 = c .before .before .before .before .before .before .before .before .before .before .before .before .before .before .before .before .before .before .before .before .before .before .before in
-    record { fits = omega (arith, b23 .if1 .left) }
+    let b20 = c .before .before .before .before .before .before .before .before .before .before .before .before .before .before .before .before .before .before .before .before in
+    record { fits = omega (arith, b20 .if1 .left) }
 
 -- src/playing.rt:123:33
 array-share-prefix-bytes : tie.Need-array-share-prefix-bytes
 array-share-prefix-bytes c =
     let b1 = c .before in
-    let b24 = b1 .before .before .before .before .before .before .before .before .before .before .before .before .before .before .before .before .before .before .before .before .before .before .before in
-    omega (arith, b24 .if1 .left, b1 .bytes-of .ensures)
+    let b21 = b1 .before .before .before .before .before .before .before .before .before .before .before .before .before .before .before .before .before .before .before .before in
+    omega (arith, b21 .if1 .left, b1 .bytes-of .ensures)
 
 -- src/playing.rt:123:33
 slice-aggregate-send : tie.Need-slice-aggregate-send
 slice-aggregate-send c =
     let b2 = c .before .before in
-    let b25 = b2 .before .before .before .before .before .before .before .before .before .before .before .before .before .before .before .before .before .before .before .before .before .before .before in
-    part-length _ _ 512 (b2 .bytes-of .ensures) (omega (arith, b25 .if1 .left))
+    let b22 = b2 .before .before .before .before .before .before .before .before .before .before .before .before .before .before .before .before .before .before .before .before in
+    part-length _ _ 512 (b2 .bytes-of .ensures) (omega (arith, b22 .if1 .left))
 
 -- src/playing.rt:123:9
 send-requires : tie.Need-send-requires
@@ -194,18 +182,15 @@ block-spec =
     array-read-steady-4
     steady-requires-4
     steady-requires-5
+    shape-requires
     array-share-prefix-f
     slice-aggregate-sounder-play
-    connected-requires
     array-share-prefix-g0
     slice-aggregate-sounder-play-2
-    connected-requires-2
     array-share-prefix-g1
     slice-aggregate-sounder-play-3
-    connected-requires-3
     array-share-prefix-g2
     slice-aggregate-sounder-play-4
-    connected-requires-4
     array-share-prefix-g3
     slice-aggregate-sounder-play-5
     array-borrow-prefix-out
