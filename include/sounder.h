@@ -78,7 +78,8 @@ struct sounder_voice {
     size_t j;          /* bands */
     size_t live_count; /* live bands, and below which they are */
     float sample_rate;
-    size_t live[16];
+    uint8_t live[16];
+    uint32_t gap; /* says nothing */
     float f0_hz[16]; /* pitches, ascending */
     float stretch[16];
     float mainlobe_gain[16];

@@ -77,8 +77,8 @@ mod voices {
         pub j: usize,
         pub live_count: usize,
         pub sample_rate: f32,
+        pub live: [u8; 16],
         pub gap: u32,
-        pub live: [usize; 16],
         pub f0_hz: [f32; 16],
         pub stretch: [f32; 16],
         pub mainlobe_gain: [f32; 16],
@@ -91,7 +91,7 @@ mod voices {
         pub rest: u32,
     }
 
-    pub const SIZE: usize = 13376;
+    pub const SIZE: usize = 13264;
     const _: () = assert!(size_of::<Voice>() == SIZE);
 
     #[repr(C)]

@@ -39,7 +39,8 @@ struct Voice {
     j: usize,
     live_count: usize,
     sample_rate: f32,
-    live: [usize; 16],
+    live: [u8; 16],
+    gap: u32, // says nothing
     f0_hz: [f32; 16],
     stretch: [f32; 16],
     mainlobe_gain: [f32; 16],

@@ -46,8 +46,8 @@ pub fn padded(l: impl Iterator<Item = f32>, n: usize) -> Vec<f32> {
 pub fn fresh(v: &Voice, i: &Inside, kind: u32, channel: u32, rate: f32) -> Result<(), String> {
     numbers("kind", (v.blend, v.channel), if kind == 0 { (0, channel) } else { (1, 0) })?;
     numbers("counts", (v.count, v.k, v.m, v.j), (i.entries.len(), i.k, i.m, i.j))?;
-    numbers("live bands", &v.live[..v.live_count.min(16)], &i.live[..])?;
-    numbers("unused live bands", v.live[i.live.len()..].iter().sum::<usize>(), 0)?;
+    numbers("live bands", v.live[..v.live_count.min(16)].iter().map(|&b| b as usize).collect::<Vec<_>>(), i.live.clone())?;
+    numbers("unused live bands", v.live[i.live.len()..].iter().any(|&b| b != 0), false)?;
     floats("rate", &[v.sample_rate], &[rate])?;
     for (what, ours, at) in
         [("pitches", &v.f0_hz, 0), ("stretches", &v.stretch, 1), ("mainlobe gains", &v.mainlobe_gain, 2), ("noise gains", &v.noise_gain, 3)]
@@ -133,7 +133,7 @@ pub fn broken(v: &Voice, which: usize) -> Voice {
         12 => b.f0_hz.swap(0, v.count.max(1) - 1),
         13 => b.stretch[v.count.max(1) - 1] = next(4.0),
         14 => b.stretch[0] = -1e-45,
-        15 => b.live[v.live_count.max(1) - 1] = v.j,
+        15 => b.live[v.live_count.max(1) - 1] = v.j as u8,
         16 => b.live.swap(0, v.live_count.max(1) - 1),
         17 => b.live_count = 17,
         18 => b.count = usize::MAX,

@@ -27,7 +27,7 @@ fn places(v: &Voice) -> Vec<(&'static str, usize, u32)> {
     put("m", &[whole(v.m)]);
     put("j", &[whole(v.j)]);
     put("live_count", &[whole(v.live_count)]);
-    put("live", &v.live.map(whole));
+    put("live", &v.live.map(u32::from));
     put("sample_rate", &bits(&[v.sample_rate]));
     put("f0_hz", &bits(&v.f0_hz));
     put("stretch", &bits(&v.stretch));
@@ -74,7 +74,7 @@ fn voice_of(p: &Theirs, c: &Case) -> Voice {
     let (i, mut v) = (p.inside(), blank());
     (v.blend, v.channel) = if c.kind == 0 { (0, c.channel) } else { (1, 0) };
     (v.count, v.k, v.m, v.j, v.live_count, v.sample_rate) = (i.entries.len(), i.k, i.m, i.j, i.live.len(), c.rate);
-    v.live[..i.live.len()].copy_from_slice(&i.live);
+    v.live.iter_mut().zip(&i.live).for_each(|(to, &b)| *to = b as u8);
     for (n, e) in i.entries.iter().enumerate() {
         [v.f0_hz[n], v.stretch[n], v.mainlobe_gain[n], v.noise_gain[n]] = e.0;
         e.1.iter().enumerate().for_each(|(c, row)| v.partials[n * 128 + c * 32..][..row.len()].copy_from_slice(row));

@@ -42,7 +42,7 @@ pub fn keeps_rules(v: &Voice) -> bool {
         && v.f0_hz[..v.count].windows(2).all(|w| w[0] <= w[1])
         && v.stretch[..v.count].iter().all(|&s| s >= 0.0 && s <= 4.0)
         && (v.sample_rate >= 8000.0 && v.sample_rate <= 192000.0)
-        && v.live[..v.live_count].iter().all(|&b| b < v.j)
+        && v.live[..v.live_count].iter().all(|&b| (b as usize) < v.j)
         && v.live[..v.live_count].windows(2).all(|w| w[0] < w[1])
         && v.state.phases[..v.m].iter().all(|&p| p >= 0.0 && p < 1.0)
 }

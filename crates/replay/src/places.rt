@@ -12,6 +12,7 @@ use voice::Rng;
 use voice::Setting;
 use voice::State;
 use voice::Voice;
+use voice::band_of;
 
 // The voice that is all zero.
 pub fn blank() -> Voice {
@@ -90,8 +91,8 @@ fn set_number(mut s: Setting, field: u32, i: usize, n: u32) -> Setting {
         5 => s.j = n as usize,
         6 => s.live_count = n as usize,
         7 => {
-            if i < 16 {
-                s.live[i] = n as usize;
+            if i < 16 && n < 256 {
+                s.live[i] = n as u8;
             }
         }
         _ => s.sample_rate = float::from_bits(n),
@@ -210,11 +211,11 @@ fn same_floats(t: Tally, what: &[u8], ours: &[f32], theirs: &[f32]) -> Tally {
     t
 }
 
-fn same_live(t: Tally, ours: [usize; 16], theirs: [usize; 16]) -> Tally {
+fn same_live(t: Tally, ours: [u8; 16], theirs: [u8; 16]) -> Tally {
     let mut t = t;
     let mut i = 0;
     while i < 16 {
-        t = same_count(t, b"live", i, ours[i], theirs[i]);
+        t = same_count(t, b"live", i, band_of(ours[i]), band_of(theirs[i]));
         i += 1;
     }
     t

@@ -34,33 +34,33 @@ abbrev pub listAt : ℕ → ℕ → GName → List Float → RefT (List Float)
 listAt b o γ xs = record { ptr = (b, o); name = γ; now = xs }
 
 module _ {M : Type 1} (𝓤 : URA M) (H : Heap 𝓤) (A : Atoms 𝓤) (W : Given 𝓤 H A) where
-  cut-lists : Parts 𝓤 H A T.the-row (Array f32 160) (λ o. o + 184) (λ v. v .lists)
+  cut-lists : Parts 𝓤 H A T.the-row (Array f32 160) (λ o. o + 72) (λ v. v .lists)
   cut-lists =
-      part-cut 𝓤 H A W T.the-row (Array f32 160) 184 (λ v. v .lists)
-      (λ s x b o. cut-array 𝓤 H A s T.the-row f32 160 184 x x (x .lists) (x .lists) (b, o) (look-at 𝓤 H A W s T.the-type T′.the-laws 1 184 refl refl (b, o) x (values x) refl))
+      part-cut 𝓤 H A W T.the-row (Array f32 160) 72 (λ v. v .lists)
+      (λ s x b o. cut-array 𝓤 H A s T.the-row f32 160 72 x x (x .lists) (x .lists) (b, o) (look-at 𝓤 H A W s T.the-type T′.the-laws 1 72 refl refl (b, o) x (values x) refl))
       (halves 𝓤 H A W (cStruct T.the-type T′.the-laws T′.the-copy))
 
-  cut-partials : Parts 𝓤 H A T.the-row (Array f32 2048) (λ o. o + 824) (λ v. v .partials)
+  cut-partials : Parts 𝓤 H A T.the-row (Array f32 2048) (λ o. o + 712) (λ v. v .partials)
   cut-partials =
-      part-cut 𝓤 H A W T.the-row (Array f32 2048) 824 (λ v. v .partials)
-      (λ s x b o. cut-array 𝓤 H A s T.the-row f32 2048 824 x x (x .partials) (x .partials) (b, o) (look-at 𝓤 H A W s T.the-type T′.the-laws 2 824 refl refl (b, o) x (values x) refl))
+      part-cut 𝓤 H A W T.the-row (Array f32 2048) 712 (λ v. v .partials)
+      (λ s x b o. cut-array 𝓤 H A s T.the-row f32 2048 712 x x (x .partials) (x .partials) (b, o) (look-at 𝓤 H A W s T.the-type T′.the-laws 2 712 refl refl (b, o) x (values x) refl))
       (halves 𝓤 H A W (cStruct T.the-type T′.the-laws T′.the-copy))
 
-  cut-noise : Parts 𝓤 H A T.the-row (Array f32 1024) (λ o. o + 9016) (λ v. v .noise)
+  cut-noise : Parts 𝓤 H A T.the-row (Array f32 1024) (λ o. o + 8904) (λ v. v .noise)
   cut-noise =
-      part-cut 𝓤 H A W T.the-row (Array f32 1024) 9016 (λ v. v .noise)
-      (λ s x b o. cut-array 𝓤 H A s T.the-row f32 1024 9016 x x (x .noise) (x .noise) (b, o) (look-at 𝓤 H A W s T.the-type T′.the-laws 3 9016 refl refl (b, o) x (values x) refl))
+      part-cut 𝓤 H A W T.the-row (Array f32 1024) 8904 (λ v. v .noise)
+      (λ s x b o. cut-array 𝓤 H A s T.the-row f32 1024 8904 x x (x .noise) (x .noise) (b, o) (look-at 𝓤 H A W s T.the-type T′.the-laws 3 8904 refl refl (b, o) x (values x) refl))
       (halves 𝓤 H A W (cStruct T.the-type T′.the-laws T′.the-copy))
 
   module _ (ℓ : Lifetime) (κ : Lft) (q : Share) (v : Voice) (b o : ℕ) where
     abbrev pub ToLists : GName → Fml
-    ToLists γ = ShrRef ℓ κ (Array f32 160) .own (listAt b (o + 184) γ (v .lists)) (vptr b (o + 184) ∷ [])
+    ToLists γ = ShrRef ℓ κ (Array f32 160) .own (listAt b (o + 72) γ (v .lists)) (vptr b (o + 72) ∷ [])
 
     abbrev pub ToPartials : GName → Fml
-    ToPartials γ = ShrRef ℓ κ (Array f32 2048) .own (listAt b (o + 824) γ (v .partials)) (vptr b (o + 824) ∷ [])
+    ToPartials γ = ShrRef ℓ κ (Array f32 2048) .own (listAt b (o + 712) γ (v .partials)) (vptr b (o + 712) ∷ [])
 
     abbrev pub ToNoise : GName → Fml
-    ToNoise γ = ShrRef ℓ κ (Array f32 1024) .own (listAt b (o + 9016) γ (v .noise)) (vptr b (o + 9016) ∷ [])
+    ToNoise γ = ShrRef ℓ κ (Array f32 1024) .own (listAt b (o + 8904) γ (v .noise)) (vptr b (o + 8904) ∷ [])
 
     -- the lender's part
     abbrev pub Lender : Fml
@@ -71,16 +71,16 @@ module _ {M : Type 1} (𝓤 : URA M) (H : Heap 𝓤) (A : Atoms 𝓤) (W : Given
         qed W (‵ (partAt T.the-row fullShare v b o) ∷ ‵ (flft κ q) ∷ []) ∵ updating ! $ bor-new ! tt κ $ bor-fracture ! tt (λ s. partAt T.the-row s v b o) fullShare $
         -- [the voice shared out; the lender's part; the token]; each list is cut out of a copy of the first
         move ! (0 ∷ 2 ∷ []) $
-        shr-bor-dup ! $ move ! (0 ∷ 2 ∷ []) $ use2 W (later (‵ (fshr-bor κ (λ s. partAt (Array f32 160) s (v .lists) b (o + 184))) ⊛ ‵ (flft κ q))) (cut-lists κ q v b o) $ await ! tt $ split ! $ move ! (2 ∷ 1 ∷ []) $
-        shr-bor-dup ! $ move ! (0 ∷ 2 ∷ []) $ use2 W (later (‵ (fshr-bor κ (λ s. partAt (Array f32 2048) s (v .partials) b (o + 824))) ⊛ ‵ (flft κ q))) (cut-partials κ q v b o) $ await ! tt $ split ! $ move ! (2 ∷ 1 ∷ []) $
-        use2 W (later (‵ (fshr-bor κ (λ s. partAt (Array f32 1024) s (v .noise) b (o + 9016))) ⊛ ‵ (flft κ q))) (cut-noise κ q v b o) $ await ! tt $ split ! $
+        shr-bor-dup ! $ move ! (0 ∷ 2 ∷ []) $ use2 W (later (‵ (fshr-bor κ (λ s. partAt (Array f32 160) s (v .lists) b (o + 72))) ⊛ ‵ (flft κ q))) (cut-lists κ q v b o) $ await ! tt $ split ! $ move ! (2 ∷ 1 ∷ []) $
+        shr-bor-dup ! $ move ! (0 ∷ 2 ∷ []) $ use2 W (later (‵ (fshr-bor κ (λ s. partAt (Array f32 2048) s (v .partials) b (o + 712))) ⊛ ‵ (flft κ q))) (cut-partials κ q v b o) $ await ! tt $ split ! $ move ! (2 ∷ 1 ∷ []) $
+        use2 W (later (‵ (fshr-bor κ (λ s. partAt (Array f32 1024) s (v .noise) b (o + 8904))) ⊛ ‵ (flft κ q))) (cut-noise κ q v b o) $ await ! tt $ split ! $
         -- [noise; the token; partials; lists; the lender's part]: each gets a name
         name-new ! tt (Array f32 160 .coded .code (v .lists)) (λ γ₁. use1 W (‵ (fres γ₁ (Array f32 160 .coded .code (v .lists)))) (W .names .obs-res γ₁ (Array f32 160 .coded .code (v .lists))) $ move ! (1 ∷ []) $ drop ! $
-        move ! (0 ∷ 4 ∷ []) $ feqI ! (List Val) (vptr b (o + 184) ∷ []) (vptr b (o + 184) ∷ []) refl $ fjoin3 ! $
+        move ! (0 ∷ 4 ∷ []) $ feqI ! (List Val) (vptr b (o + 72) ∷ []) (vptr b (o + 72) ∷ []) refl $ fjoin3 ! $
         name-new ! tt (Array f32 2048 .coded .code (v .partials)) (λ γ₂. use1 W (‵ (fres γ₂ (Array f32 2048 .coded .code (v .partials)))) (W .names .obs-res γ₂ (Array f32 2048 .coded .code (v .partials))) $ move ! (1 ∷ []) $ drop ! $
-        move ! (0 ∷ 4 ∷ []) $ feqI ! (List Val) (vptr b (o + 824) ∷ []) (vptr b (o + 824) ∷ []) refl $ fjoin3 ! $
+        move ! (0 ∷ 4 ∷ []) $ feqI ! (List Val) (vptr b (o + 712) ∷ []) (vptr b (o + 712) ∷ []) refl $ fjoin3 ! $
         name-new ! tt (Array f32 1024 .coded .code (v .noise)) (λ γ₃. use1 W (‵ (fres γ₃ (Array f32 1024 .coded .code (v .noise)))) (W .names .obs-res γ₃ (Array f32 1024 .coded .code (v .noise))) $ move ! (1 ∷ []) $ drop ! $
-        move ! (0 ∷ 3 ∷ []) $ feqI ! (List Val) (vptr b (o + 9016) ∷ []) (vptr b (o + 9016) ∷ []) refl $ fjoin3 ! $
+        move ! (0 ∷ 3 ∷ []) $ feqI ! (List Val) (vptr b (o + 8904) ∷ []) (vptr b (o + 8904) ∷ []) refl $ fjoin3 ! $
         at-once ! $ show ! (λ (g₁ : GName). ex 𝓤 (λ (g₂ : GName). ex 𝓤 (λ (g₃ : GName). sep 𝓤 (sem 𝓤 H A (ToLists g₁)) (sep 𝓤 (sem 𝓤 H A (ToPartials g₂)) (sep 𝓤 (sem 𝓤 H A (ToNoise g₃)) (sep 𝓤 (A .lft κ q) (sem 𝓤 H A Lender))))))) γ₁ $ show ! (λ (g₂ : GName). ex 𝓤 (λ (g₃ : GName). sep 𝓤 (sem 𝓤 H A (ToLists γ₁)) (sep 𝓤 (sem 𝓤 H A (ToPartials g₂)) (sep 𝓤 (sem 𝓤 H A (ToNoise g₃)) (sep 𝓤 (A .lft κ q) (sem 𝓤 H A Lender)))))) γ₂ $ show ! (λ (g₃ : GName). sep 𝓤 (sem 𝓤 H A (ToLists γ₁)) (sep 𝓤 (sem 𝓤 H A (ToPartials γ₂)) (sep 𝓤 (sem 𝓤 H A (ToNoise g₃)) (sep 𝓤 (A .lft κ q) (sem 𝓤 H A Lender))))) γ₃ $ move ! (2 ∷ 1 ∷ 0 ∷ []) $ done !)))
 
     -- what lies in memory as one, from its cell and what it owns, and back

@@ -137,7 +137,7 @@ module _ {M : Type 1} (𝓤 : URA M) (H : Heap 𝓤) (A : Atoms 𝓤) (W : Given
 
   -- what the work's triple binds outside: the lists lent for ν, each under a name
   abbrev passed : GName → GName → GName → Setting × (RefT (List Float) × (RefT (List Float) × (RefT (List Float) × (State × (Shape × (RefT (List Float) × (RefT (List Float) × (RefT (List Float) × (RefT (List Float) × (RefT (List Float) × (RefT (List Float) × (Unit {0}))))))))))))
-  passed γ₁ γ₂ γ₃ = (h .set, (listAt b (o + 184) γ₁ (h .lists), (listAt b (o + 824) γ₂ (h .partials), (listAt b (o + 9016) γ₃ (h .noise), (h .state, (bl, (fs, (s0, (s1, (s2, (s3, (os, tt))))))))))))
+  passed γ₁ γ₂ γ₃ = (h .set, (listAt b (o + 72) γ₁ (h .lists), (listAt b (o + 712) γ₂ (h .partials), (listAt b (o + 8904) γ₃ (h .noise), (h .state, (bl, (fs, (s0, (s1, (s2, (s3, (os, tt))))))))))))
 
   abbrev to-work : ℕ → GName → GName → GName → Work 𝓤 H A at-mem run .Ghost
   to-work ν γ₁ γ₂ γ₃ = (
@@ -146,7 +146,7 @@ module _ {M : Type 1} (𝓤 : URA M) (H : Heap 𝓤) (A : Atoms 𝓤) (W : Given
       (fullShare, (q₁, (q₂, (q₃, (q₄, (q₅, (q₆, tt))))))),
       tt,
       passed γ₁ γ₂ γ₃,
-      (N′.lowered (h .set) ∷ [], (vptr b (o + 184) ∷ [], (vptr b (o + 824) ∷ [], (vptr b (o + 9016) ∷ [], (S′.lowered (h .state) ∷ [], (B′.lowered bl ∷ [], (vfs ∷ [], (vs0 ∷ [], (vs1 ∷ [], (vs2 ∷ [], (vs3 ∷ [], (vo ∷ [], tt)))))))))))),
+      (N′.lowered (h .set) ∷ [], (vptr b (o + 72) ∷ [], (vptr b (o + 712) ∷ [], (vptr b (o + 8904) ∷ [], (S′.lowered (h .state) ∷ [], (B′.lowered bl ∷ [], (vfs ∷ [], (vs0 ∷ [], (vs1 ∷ [], (vs2 ∷ [], (vs3 ∷ [], (vo ∷ [], tt)))))))))))),
     ),
     tt,
   )
