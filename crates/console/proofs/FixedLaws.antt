@@ -1,6 +1,6 @@
 -- Laws on the digits of a float. Assumes nothing.
 use Prim.Native.Nat.{ℕ, _+_, _-_, _*_, _/_, _%_, _^_, _<_, _≤_}
-use mathlib.Core.Path.{_≡_, refl, ap, sym, _∙_, subst}
+use mathlib.Core.Path.{_≡_, ap, sym, _∙_, subst}
 use native.Mathlib.Omega.{arith}
 use native.Mathlib.Nat.{div-eq-of-lt, mod-eq-of-lt, div-le-self, add-zero, mul-comm, mul-assoc, mul-le-mul-right, le-trans, lt-of-lt-of-le, lt-of-not-le, not-le-of-lt}
 use lib.Dec.{lit≤}

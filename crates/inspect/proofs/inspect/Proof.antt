@@ -2,14 +2,6 @@ use Rattle.console.proofs.Parts.{part-length}
 use borrow.Author.Needs.{needs}
 use Rattle.inspect.proofs.inspect.Statement.{statement}
 use Rattle.inspect.proofs.inspect.Tie as tie
-use Rattle.inspect.proofs.inspect.Reads as reads
-use Rattle.inspect.proofs.inspect.Lts as lts
-use Rattle.console.proofs.centres.from_argument.Reads as from-argument-reads
-use Rattle.console.proofs.centres.values.Reads as values-reads
-use Rattle.console.proofs.say.text.Reads as text-reads
-use Rattle.inspect.proofs.describe.Reads as describe-reads
-use Rattle.inspect.proofs.say_argument.Reads as say-argument-reads
-use Rattle.console.proofs.file.read_argument.Reads as read-argument-reads
 
 -- src/main.rt:67:9
 from-argument-requires : tie.Need-from-argument-requires

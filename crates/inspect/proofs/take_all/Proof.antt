@@ -1,14 +1,7 @@
 use Prim.Native.Nat.{_-_}
-use lib.ListN.{length}
 use borrow.Author.Needs.{needs}
 use Rattle.inspect.proofs.take_all.Statement.{statement}
 use Rattle.inspect.proofs.take_all.Tie as tie
-use Rattle.inspect.proofs.take_all.Reads as reads
-use Rattle.inspect.proofs.take_all.Lts as lts
-use Rattle.console.proofs.say.text.Reads as text-reads
-use Rattle.inspect.proofs.inspect.Reads as inspect-reads
-use Rattle.inspect.proofs.usage.Reads as usage-reads
-use Rattle.inspect.proofs.which.Reads as which-reads
 
 abbrev Inv-loop : tie.InvT-loop
 Inv-loop count centres₀ skip₀ i₀ t6 centres skip i = Unit {0}

@@ -3,10 +3,6 @@ use borrow.Author.Needs.{needs}
 use Prim.Native.Nat.{_≤_, _-_}
 use Rattle.replay.proofs.numbers.Statement.{statement}
 use Rattle.replay.proofs.numbers.Tie as tie
-use Rattle.replay.proofs.numbers.Reads as reads
-use Rattle.replay.proofs.numbers.Lts as lts
-use Rattle.io.proofs.print_decimal.Reads as print-decimal-reads
-use Rattle.io.proofs.write_all.Reads as write-all-reads
 
 abbrev Inv-loop : tie.InvT-loop
 Inv-loop answers i₀ t4 t5 i = i ≤ 18

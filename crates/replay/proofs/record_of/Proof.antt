@@ -5,13 +5,6 @@ use borrow.Author.Needs.{needs}
 use Rattle.replay.proofs.Parts.{part-length, kept-length}
 use Rattle.replay.proofs.record_of.Statement.{statement}
 use Rattle.replay.proofs.record_of.Tie as tie
-use Rattle.replay.proofs.record_of.Reads as reads
-use Rattle.replay.proofs.record_of.Lts as lts
-use Rattle.io.proofs.read_full.Reads as read-full-reads
-use Rattle.replay.proofs.buffer.Reads as buffer-reads
-use Rattle.replay.proofs.list.first.Reads as first-reads
-use Rattle.replay.proofs.record.Reads as record-reads
-use Rattle.replay.proofs.tally.same_count.Reads as same-count-reads
 
 -- src/main.rt:34:21
 buffer-requires : tie.Need-buffer-requires

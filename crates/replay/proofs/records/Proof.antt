@@ -3,12 +3,6 @@ use borrow.Author.Needs.{needs}
 use Prim.Native.Nat.{_≤_, _-_}
 use Rattle.replay.proofs.records.Statement.{statement}
 use Rattle.replay.proofs.records.Tie as tie
-use Rattle.replay.proofs.records.Reads as reads
-use Rattle.replay.proofs.records.Lts as lts
-use Rattle.replay.proofs.next.Reads as next-reads
-use Rattle.replay.proofs.record_of.Reads as record-of-reads
-use Rattle.replay.proofs.tally.more.Reads as more-reads
-use Rattle.replay.proofs.tally.start.Reads as start-reads
 
 abbrev Inv-loop : tie.InvT-loop
 Inv-loop kind fd n t₀ i₀ t i = i ≤ n

@@ -3,9 +3,6 @@ use lib.Seq.{length-take-le}
 use borrow.Author.Needs.{needs}
 use Rattle.run_list.proofs.in_block.Statement.{statement}
 use Rattle.run_list.proofs.in_block.Tie as tie
-use Rattle.run_list.proofs.in_block.Reads as reads
-use Rattle.run_list.proofs.in_block.Lts as lts
-use Rattle.run_list.proofs.played.Reads as played-reads
 
 -- src/main.rt:101:90
 array-borrow-prefix-out : tie.Need-array-borrow-prefix-out

@@ -2,12 +2,6 @@ use Rattle.console.proofs.Parts.{part-length}
 use borrow.Author.Needs.{needs}
 use Rattle.tone.proofs.run.Statement.{statement}
 use Rattle.tone.proofs.run.Tie as tie
-use Rattle.tone.proofs.run.Reads as reads
-use Rattle.tone.proofs.run.Lts as lts
-use Rattle.console.proofs.centres.from_argument.Reads as from-argument-reads
-use Rattle.console.proofs.centres.values.Reads as values-reads
-use Rattle.tone.proofs.play_image.Reads as play-image-reads
-use Rattle.console.proofs.file.read_argument.Reads as read-argument-reads
 
 -- src/main.rt:91:36
 slice-aggregate-read-argument : tie.Need-slice-aggregate-read-argument

@@ -3,12 +3,6 @@ use Rattle.console.proofs.CentresLaws.{ended-number, ended-refused}
 use borrow.Author.Needs.{needs}
 use Rattle.console.proofs.centres.after_line.Statement.{statement}
 use Rattle.console.proofs.centres.after_line.Tie as tie
-use Rattle.console.proofs.centres.after_line.Reads as reads
-use Rattle.console.proofs.centres.after_line.Lts as lts
-use Rattle.console.proofs.centres.faulty.Reads as faulty-reads
-use Rattle.console.proofs.centres.with.Reads as with-reads
-use Rattle.console.proofs.decimal.conclude.Reads as conclude-reads
-use Rattle.console.proofs.narrow.value.Reads as value-reads
 
 -- src/centres.rt:144:9
 returns : tie.Need-returns

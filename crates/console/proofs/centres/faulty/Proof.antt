@@ -2,8 +2,6 @@ use mathlib.Core.Path.{refl}
 use lib.Ieee.{ofBits}
 use Rattle.console.proofs.centres.faulty.Statement.{statement}
 use Rattle.console.proofs.centres.faulty.Tie as tie
-use Rattle.console.proofs.centres.faulty.Reads as reads
-use Rattle.console.proofs.centres.faulty.Lts as lts
 
 -- src/centres.rt:53:1
 returns : tie.Need-returns

@@ -3,10 +3,6 @@ use Rattle.console.specs.Reader.{firstLine}
 use borrow.Author.Needs.{needs}
 use Rattle.console.proofs.centres.first.Statement.{statement}
 use Rattle.console.proofs.centres.first.Tie as tie
-use Rattle.console.proofs.centres.first.Reads as reads
-use Rattle.console.proofs.centres.first.Lts as lts
-use Rattle.console.proofs.decimal.next.Reads as next-reads
-use Rattle.console.proofs.decimal.start.Reads as start-reads
 
 -- src/centres.rt:85:19
 start-requires : tie.Need-start-requires

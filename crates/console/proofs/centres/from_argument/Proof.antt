@@ -3,15 +3,6 @@ use Rattle.console.proofs.CentresLaws.{centres-few}
 use borrow.Author.Needs.{needs}
 use Rattle.console.proofs.centres.from_argument.Statement.{statement}
 use Rattle.console.proofs.centres.from_argument.Tie as tie
-use Rattle.console.proofs.centres.from_argument.Reads as reads
-use Rattle.console.proofs.centres.from_argument.Lts as lts
-use Rattle.console.proofs.centres.faulty.Reads as faulty-reads
-use Rattle.console.proofs.centres.none.Reads as none-reads
-use Rattle.console.proofs.centres.read.Reads as read-reads
-use Rattle.console.proofs.centres.say_fault.Reads as say-fault-reads
-use Rattle.console.proofs.file.read_argument.Reads as read-argument-reads
-use Rattle.console.proofs.say.text.Reads as text-reads
-use Rattle.io.proofs.buffer.Reads as buffer-reads
 
 -- src/centres.rt:237:9
 none-requires : tie.Need-none-requires

@@ -4,10 +4,6 @@ use Rattle.console.specs.Reader.{longerLine}
 use borrow.Author.Needs.{needs}
 use Rattle.console.proofs.centres.longer.Statement.{statement}
 use Rattle.console.proofs.centres.longer.Tie as tie
-use Rattle.console.proofs.centres.longer.Reads as reads
-use Rattle.console.proofs.centres.longer.Lts as lts
-use Rattle.console.proofs.centres.first.Reads as first-reads
-use Rattle.console.proofs.decimal.next.Reads as next-reads
 
 -- src/centres.rt:109:9
 returns : tie.Need-returns

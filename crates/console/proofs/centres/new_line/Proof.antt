@@ -1,9 +1,6 @@
 use borrow.Author.Needs.{needs}
 use Rattle.console.proofs.centres.new_line.Statement.{statement}
 use Rattle.console.proofs.centres.new_line.Tie as tie
-use Rattle.console.proofs.centres.new_line.Reads as reads
-use Rattle.console.proofs.centres.new_line.Lts as lts
-use Rattle.console.proofs.decimal.start.Reads as start-reads
 
 -- src/centres.rt:72:15
 start-requires : tie.Need-start-requires

@@ -2,8 +2,6 @@ use mathlib.Core.Path.{refl}
 use lib.Ieee.{ofBits}
 use Rattle.console.proofs.centres.none.Statement.{statement}
 use Rattle.console.proofs.centres.none.Tie as tie
-use Rattle.console.proofs.centres.none.Reads as reads
-use Rattle.console.proofs.centres.none.Lts as lts
 
 -- src/centres.rt:41:1
 returns : tie.Need-returns

@@ -7,12 +7,6 @@ use Rattle.console.specs.Reader.{startReader, readOn}
 use Rattle.console.proofs.CentresLaws.{read-on-is, read-next, read-end, above-step}
 use Rattle.console.proofs.centres.read.Statement.{statement}
 use Rattle.console.proofs.centres.read.Tie as tie
-use Rattle.console.proofs.centres.read.Reads as reads
-use Rattle.console.proofs.centres.read.Lts as lts
-use Rattle.console.proofs.centres.after_line.Reads as after-line-reads
-use Rattle.console.proofs.centres.new_line.Reads as new-line-reads
-use Rattle.console.proofs.centres.none.Reads as none-reads
-use Rattle.console.proofs.centres.step.Reads as step-reads
 
 abbrev Inv-loop : tie.InvT-loop
 Inv-loop text r₀ i₀ r i = (r .above ≤ i) × (readOn r (drop i text) ≡ readOn startReader text)

@@ -3,11 +3,6 @@ use Rattle.console.specs.Reader.{nextReader}
 use borrow.Author.Needs.{needs}
 use Rattle.console.proofs.centres.step.Statement.{statement}
 use Rattle.console.proofs.centres.step.Tie as tie
-use Rattle.console.proofs.centres.step.Reads as reads
-use Rattle.console.proofs.centres.step.Lts as lts
-use Rattle.console.proofs.centres.after_line.Reads as after-line-reads
-use Rattle.console.proofs.centres.longer.Reads as longer-reads
-use Rattle.console.proofs.centres.new_line.Reads as new-line-reads
 
 -- src/centres.rt:168:22
 after-line-requires : tie.Need-after-line-requires

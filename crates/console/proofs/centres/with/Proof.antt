@@ -3,9 +3,6 @@ use Rattle.console.specs.Centres.{withCentre}
 use borrow.Author.Needs.{needs}
 use Rattle.console.proofs.centres.with.Statement.{statement}
 use Rattle.console.proofs.centres.with.Tie as tie
-use Rattle.console.proofs.centres.with.Reads as reads
-use Rattle.console.proofs.centres.with.Lts as lts
-use Rattle.console.proofs.centres.faulty.Reads as faulty-reads
 
 -- src/centres.rt:132:9
 mul-c : tie.Need-mul-c

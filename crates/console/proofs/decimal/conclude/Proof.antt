@@ -1,8 +1,6 @@
 use borrow.Author.Needs.{needs}
 use Rattle.console.proofs.decimal.conclude.Statement.{statement}
 use Rattle.console.proofs.decimal.conclude.Tie as tie
-use Rattle.console.proofs.decimal.conclude.Reads as reads
-use Rattle.console.proofs.decimal.conclude.Lts as lts
 
 -- src/decimal.rt:122:13
 returns : tie.Need-returns

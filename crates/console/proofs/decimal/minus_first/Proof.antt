@@ -2,8 +2,6 @@ use borrow.Author.Tests.{lt-ltb, le-ltb}
 use borrow.Author.Needs.{needs}
 use Rattle.console.proofs.decimal.minus_first.Statement.{statement}
 use Rattle.console.proofs.decimal.minus_first.Tie as tie
-use Rattle.console.proofs.decimal.minus_first.Reads as reads
-use Rattle.console.proofs.decimal.minus_first.Lts as lts
 
 -- src/decimal.rt:114:25
 shared-slice-read-result : tie.Need-shared-slice-read-result

@@ -3,9 +3,6 @@ use mathlib.Core.Path.{sym, _∙_}
 use borrow.Author.Needs.{needs}
 use Rattle.console.proofs.decimal.next.Statement.{statement}
 use Rattle.console.proofs.decimal.next.Tie as tie
-use Rattle.console.proofs.decimal.next.Reads as reads
-use Rattle.console.proofs.decimal.next.Lts as lts
-use Rattle.console.proofs.decimal.spoilt.Reads as spoilt-reads
 
 -- src/decimal.rt:60:13
 spoilt-requires : tie.Need-spoilt-requires

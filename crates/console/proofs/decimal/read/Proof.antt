@@ -2,11 +2,6 @@ use Rattle.console.proofs.ScanLaws.{read-minus, read-plain}
 use borrow.Author.Needs.{needs}
 use Rattle.console.proofs.decimal.read.Statement.{statement}
 use Rattle.console.proofs.decimal.read.Tie as tie
-use Rattle.console.proofs.decimal.read.Reads as reads
-use Rattle.console.proofs.decimal.read.Lts as lts
-use Rattle.console.proofs.decimal.conclude.Reads as conclude-reads
-use Rattle.console.proofs.decimal.minus_first.Reads as minus-first-reads
-use Rattle.console.proofs.decimal.scan_from.Reads as scan-from-reads
 
 -- src/decimal.rt:136:8
 minus-first-requires : tie.Need-minus-first-requires

@@ -1,12 +1,8 @@
-use mathlib.Core.Path.{_≡_, sym, ap, _∙_}
+use mathlib.Core.Path.{sym, ap, _∙_}
 use Rattle.console.specs.Decimal.{foundNumber}
 use borrow.Author.Needs.{needs}
 use Rattle.console.proofs.decimal.read_whole.Statement.{statement}
 use Rattle.console.proofs.decimal.read_whole.Tie as tie
-use Rattle.console.proofs.decimal.read_whole.Reads as reads
-use Rattle.console.proofs.decimal.read_whole.Lts as lts
-use Rattle.console.proofs.decimal.read.Reads as read-reads
-use Rattle.console.proofs.decimal.whole_number.Reads as whole-number-reads
 
 -- src/decimal.rt:166:11
 read-requires : tie.Need-read-requires

@@ -1,15 +1,11 @@
-use Prim.Native.Nat.{ℕ, _-_, _+_}
-use mathlib.Core.Path.{_≡_, refl, ap, sym, _∙_}
+use Prim.Native.Nat.{_-_}
+use mathlib.Core.Path.{_≡_, sym, _∙_}
 use native.Mathlib.Omega.{arith}
 use lib.ListN.{length, drop}
 use Rattle.console.specs.Decimal.{scanned, startScan}
 use Rattle.console.proofs.ScanLaws.{scanned-next, scanned-end}
 use Rattle.console.proofs.decimal.scan_from.Statement.{statement}
 use Rattle.console.proofs.decimal.scan_from.Tie as tie
-use Rattle.console.proofs.decimal.scan_from.Reads as reads
-use Rattle.console.proofs.decimal.scan_from.Lts as lts
-use Rattle.console.proofs.decimal.next.Reads as next-reads
-use Rattle.console.proofs.decimal.start.Reads as start-reads
 
 abbrev Inv-loop : tie.InvT-loop
 Inv-loop text from s₀ i₀ s i = scanned s (drop i text) ≡ scanned startScan (drop from text)

@@ -2,8 +2,6 @@ use borrow.Author.Tests.{lt-ltb, le-ltb}
 use borrow.Author.Needs.{needs}
 use Rattle.console.proofs.decimal.whole_number.Statement.{statement}
 use Rattle.console.proofs.decimal.whole_number.Tie as tie
-use Rattle.console.proofs.decimal.whole_number.Reads as reads
-use Rattle.console.proofs.decimal.whole_number.Lts as lts
 
 -- src/decimal.rt:151:9
 returns : tie.Need-returns

@@ -1,15 +1,11 @@
-use Prim.Native.Nat.{ℕ, _-_, _+_, _≤_}
-use mathlib.Core.Path.{_≡_, refl, ap, sym, _∙_}
+use Prim.Native.Nat.{_-_, _≤_}
+use mathlib.Core.Path.{_≡_, refl, sym}
 use native.Mathlib.Omega.{arith}
 use borrow.Author.Needs.{needs}
 use lib.ListN.{length}
 use lib.Seq.{length-take-le}
 use Rattle.console.proofs.file.read_all.Statement.{statement}
 use Rattle.console.proofs.file.read_all.Tie as tie
-use Rattle.console.proofs.file.read_all.Reads as reads
-use Rattle.console.proofs.file.read_all.Lts as lts
-use Rattle.console.proofs.file.read_rest.Reads as read-rest-reads
-use Rattle.io.proofs.count.Reads as count-reads
 
 abbrev Inv-loop : tie.InvT-loop
 Inv-loop fd buf₀ done₀ buf done = (length buf ≡ length buf₀) × (done ≤ length buf)

@@ -3,8 +3,6 @@ use native.Mathlib.Omega.{arith}
 use borrow.Author.Needs.{needs}
 use Rattle.console.proofs.fixed.doubled.Statement.{statement}
 use Rattle.console.proofs.fixed.doubled.Tie as tie
-use Rattle.console.proofs.fixed.doubled.Reads as reads
-use Rattle.console.proofs.fixed.doubled.Lts as lts
 
 -- src/fixed.rt:66:15
 mul-low : tie.Need-mul-low

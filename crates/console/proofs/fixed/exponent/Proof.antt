@@ -2,8 +2,6 @@ use native.Mathlib.Omega.{arith}
 use borrow.Author.Tests.{eq-eqb, ne-eqb}
 use Rattle.console.proofs.fixed.exponent.Statement.{statement}
 use Rattle.console.proofs.fixed.exponent.Tie as tie
-use Rattle.console.proofs.fixed.exponent.Reads as reads
-use Rattle.console.proofs.fixed.exponent.Lts as lts
 
 -- src/fixed.rt:110:9
 returns : tie.Need-returns

@@ -2,12 +2,6 @@ use native.Mathlib.Omega.{arith}
 use Rattle.console.proofs.FixedLaws.{fixed-whole, fixed-part}
 use Rattle.console.proofs.fixed.magnitude.Statement.{statement}
 use Rattle.console.proofs.fixed.magnitude.Tie as tie
-use Rattle.console.proofs.fixed.magnitude.Reads as reads
-use Rattle.console.proofs.fixed.magnitude.Lts as lts
-use Rattle.console.proofs.fixed.exponent.Reads as exponent-reads
-use Rattle.console.proofs.fixed.millionths.Reads as millionths-reads
-use Rattle.console.proofs.fixed.shifted.Reads as shifted-reads
-use Rattle.console.proofs.fixed.significand.Reads as significand-reads
 
 -- src/fixed.rt:119:9
 significand-requires : tie.Need-significand-requires

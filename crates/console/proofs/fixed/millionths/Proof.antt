@@ -1,15 +1,10 @@
-use mathlib.Core.Path.{_≡_, sym, subst, ap, _∙_}
-use Prim.Native.Nat.{ℕ, _*_, _^_, _<_}
+use mathlib.Core.Path.{sym, ap, _∙_}
+use Prim.Native.Nat.{ℕ, _*_}
 use native.Mathlib.Omega.{arith}
-use lib.Pow.{pow-lt, pow-pos}
 use Rattle.console.specs.Fixed.{roundedOf}
 use Rattle.console.proofs.FixedLaws.{rounded-far, shift-room}
 use Rattle.console.proofs.fixed.millionths.Statement.{statement}
 use Rattle.console.proofs.fixed.millionths.Tie as tie
-use Rattle.console.proofs.fixed.millionths.Reads as reads
-use Rattle.console.proofs.fixed.millionths.Lts as lts
-use Rattle.console.proofs.fixed.power_of_two.Reads as power-of-two-reads
-use Rattle.console.proofs.fixed.rounded.Reads as rounded-reads
 
 -- src/fixed.rt:55:13
 mul-n : tie.Need-mul-n

@@ -1,11 +1,9 @@
-use Prim.Native.Nat.{ℕ, _+_, _-_, _*_, _^_, _<_, _≤_}
+use Prim.Native.Nat.{ℕ, _-_, _*_, _^_, _≤_}
 use mathlib.Core.Path.{_≡_, refl, ap, sym, _∙_}
 use native.Mathlib.Omega.{arith}
 use lib.Pow.{pow-add, pow-lt}
 use Rattle.console.proofs.fixed.power_of_two.Statement.{statement}
 use Rattle.console.proofs.fixed.power_of_two.Tie as tie
-use Rattle.console.proofs.fixed.power_of_two.Reads as reads
-use Rattle.console.proofs.fixed.power_of_two.Lts as lts
 
 abbrev Inv-loop : tie.InvT-loop
 Inv-loop p i₀ r₀ i r = (r ≡ 2 ^ i) × (i ≤ p)

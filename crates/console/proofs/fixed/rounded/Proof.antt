@@ -5,8 +5,6 @@ use Rattle.console.specs.Fixed.{roundedOf}
 use borrow.Author.Needs.{needs}
 use Rattle.console.proofs.fixed.rounded.Statement.{statement}
 use Rattle.console.proofs.fixed.rounded.Tie as tie
-use Rattle.console.proofs.fixed.rounded.Reads as reads
-use Rattle.console.proofs.fixed.rounded.Lts as lts
 
 -- src/fixed.rt:39:13
 div-q : tie.Need-div-q

@@ -1,15 +1,10 @@
-use Prim.Native.Nat.{ℕ, _+_, _-_, _*_, _^_, _<_, _≤_}
-use mathlib.Core.Path.{_≡_, refl, ap, sym, _∙_}
+use Prim.Native.Nat.{ℕ, _-_, _*_, _^_, _≤_}
+use mathlib.Core.Path.{_≡_, ap, _∙_}
 use native.Mathlib.Omega.{arith}
-use native.Mathlib.Nat.{mul-assoc, mul-comm, mul-one}
-use lib.Pow.{pow-add, shl-lt, pow-mono}
 use Rattle.console.specs.Fixed.{total, InLimbs}
 use Rattle.console.proofs.FixedLaws.{high-small, twice-shift}
 use Rattle.console.proofs.fixed.shifted.Statement.{statement}
 use Rattle.console.proofs.fixed.shifted.Tie as tie
-use Rattle.console.proofs.fixed.shifted.Reads as reads
-use Rattle.console.proofs.fixed.shifted.Lts as lts
-use Rattle.console.proofs.fixed.doubled.Reads as doubled-reads
 
 abbrev Inv-loop : tie.InvT-loop
 Inv-loop m e l₀ i₀ l i = InLimbs l × (total l ≡ m * 2 ^ i) × (i ≤ e)

@@ -3,8 +3,6 @@ use borrow.Author.Tests.{eq-eqb, ne-eqb}
 use borrow.Author.Needs.{needs}
 use Rattle.console.proofs.fixed.significand.Statement.{statement}
 use Rattle.console.proofs.fixed.significand.Tie as tie
-use Rattle.console.proofs.fixed.significand.Reads as reads
-use Rattle.console.proofs.fixed.significand.Lts as lts
 
 -- src/fixed.rt:99:9
 returns : tie.Need-returns

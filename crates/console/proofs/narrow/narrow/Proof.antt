@@ -1,16 +1,10 @@
 use Rattle.console.proofs.NarrowLaws.{narrow-lt, above-no-nan}
 use Rattle.float.proofs.Patterns.{pattern-no-nan}
 use Rattle.console.specs.Narrow.{narrowed}
-use lib.Ieee.{binary32, ofBits, nanBits, lt}
-use lib.Dec.{T}
-use mathlib.Core.Bool.{not}
-use mathlib.Core.Path.{_≡_, sym, subst}
+use lib.Ieee.{ofBits}
 use borrow.Author.Needs.{needs}
 use Rattle.console.proofs.narrow.narrow.Statement.{statement}
 use Rattle.console.proofs.narrow.narrow.Tie as tie
-use Rattle.console.proofs.narrow.narrow.Reads as reads
-use Rattle.console.proofs.narrow.narrow.Lts as lts
-use Rattle.console.proofs.narrow.pattern.Reads as pattern-reads
 
 -- src/narrow.rt:48:39
 float-to-bits-pattern : tie.Need-float-to-bits-pattern

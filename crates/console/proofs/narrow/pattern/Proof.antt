@@ -1,11 +1,9 @@
 use Rattle.console.specs.Narrow.{narrowPattern}
-use borrow.Author.Tests.{eq-eqb, ne-eqb, lt-ltb, le-ltb, le-leb, lt-leb}
+use borrow.Author.Tests.{lt-ltb, le-ltb, le-leb, lt-leb}
 use native.Mathlib.Omega.{arith}
 use borrow.Author.Needs.{needs}
 use Rattle.console.proofs.narrow.pattern.Statement.{statement}
 use Rattle.console.proofs.narrow.pattern.Tie as tie
-use Rattle.console.proofs.narrow.pattern.Reads as reads
-use Rattle.console.proofs.narrow.pattern.Lts as lts
 
 -- src/narrow.rt:27:9
 returns : tie.Need-returns

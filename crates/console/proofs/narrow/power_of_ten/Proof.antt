@@ -1,12 +1,10 @@
-use Prim.Native.Nat.{ℕ, _+_, _-_, _*_, _^_, _<_, _≤_}
+use Prim.Native.Nat.{ℕ, _-_, _*_, _^_, _≤_}
 use mathlib.Core.Path.{_≡_, refl, ap, sym, _∙_}
 use native.Mathlib.Omega.{arith}
 use native.Mathlib.Nat.{pow-le-pow-right, zero-lt-suc}
 use lib.Pow.{pow-add}
 use Rattle.console.proofs.narrow.power_of_ten.Statement.{statement}
 use Rattle.console.proofs.narrow.power_of_ten.Tie as tie
-use Rattle.console.proofs.narrow.power_of_ten.Reads as reads
-use Rattle.console.proofs.narrow.power_of_ten.Lts as lts
 
 abbrev Inv-loop : tie.InvT-loop
 Inv-loop p i₀ r₀ i r = (r ≡ 10 ^ i) × (i ≤ p)

@@ -2,12 +2,6 @@ use Rattle.console.proofs.NarrowLaws.{quotient-is, signed-true, signed-
 use borrow.Author.Needs.{needs}
 use Rattle.console.proofs.narrow.value.Statement.{statement}
 use Rattle.console.proofs.narrow.value.Tie as tie
-use Rattle.console.proofs.narrow.value.Reads as reads
-use Rattle.console.proofs.narrow.value.Lts as lts
-use Rattle.console.proofs.narrow.at_most_15.Reads as at-most-15-reads
-use Rattle.console.proofs.narrow.narrow.Reads as narrow-reads
-use Rattle.console.proofs.narrow.power_of_ten.Reads as power-of-ten-reads
-use Rattle.std.proofs.num.nearest_u64_to_f64.Reads as nearest-u64-to-f64-reads
 
 -- src/narrow.rt:62:9
 nearest-u64-to-f64-requires : tie.Need-nearest-u64-to-f64-requires

@@ -3,9 +3,6 @@ use lib.ListN.{length}
 use native.Mathlib.Omega.{arith}
 use Rattle.console.proofs.say.name.Statement.{statement}
 use Rattle.console.proofs.say.name.Tie as tie
-use Rattle.console.proofs.say.name.Reads as reads
-use Rattle.console.proofs.say.name.Lts as lts
-use Rattle.console.proofs.say.byte.Reads as byte-reads
 
 abbrev Inv-loop : tie.InvT-loop
 Inv-loop fd s i₀ i = Unit {0}

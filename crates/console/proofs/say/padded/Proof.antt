@@ -3,10 +3,6 @@ use lib.Seq.{length-take-le}
 use borrow.Author.Needs.{needs}
 use Rattle.console.proofs.say.padded.Statement.{statement}
 use Rattle.console.proofs.say.padded.Tie as tie
-use Rattle.console.proofs.say.padded.Reads as reads
-use Rattle.console.proofs.say.padded.Lts as lts
-use Rattle.io.proofs.decimal.Reads as decimal-reads
-use Rattle.io.proofs.write_all.Reads as write-all-reads
 
 -- src/say.rt:15:9
 decimal-requires : tie.Need-decimal-requires

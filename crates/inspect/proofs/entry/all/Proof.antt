@@ -2,12 +2,6 @@ use Prim.Native.Nat.{_-_}
 use borrow.Author.Needs.{needs}
 use Rattle.inspect.proofs.entry.all.Statement.{statement}
 use Rattle.inspect.proofs.entry.all.Tie as tie
-use Rattle.inspect.proofs.entry.all.Reads as reads
-use Rattle.inspect.proofs.entry.all.Lts as lts
-use Rattle.inspect.proofs.entry.larger.Reads as larger-reads
-use Rattle.inspect.proofs.entry.one.Reads as one-reads
-use Rattle.table.proofs.entry.entry_at.Reads as entry-at-reads
-use Rattle.table.proofs.start.entries_start.Reads as entries-start-reads
 
 abbrev Inv-loop : tie.InvT-loop
 Inv-loop image start c₀ k₀ i₀ c k i = Unit {0}

@@ -2,13 +2,6 @@ use Prim.Native.Nat.{_-_}
 use borrow.Author.Needs.{needs}
 use Rattle.inspect.proofs.voices.all.Statement.{statement}
 use Rattle.inspect.proofs.voices.all.Tie as tie
-use Rattle.inspect.proofs.voices.all.Reads as reads
-use Rattle.inspect.proofs.voices.all.Lts as lts
-use Rattle.console.proofs.say.number.Reads as number-reads
-use Rattle.console.proofs.say.text.Reads as text-reads
-use Rattle.inspect.proofs.voices.least.Reads as least-reads
-use Rattle.inspect.proofs.voices.span.Reads as span-reads
-use Rattle.inspect.proofs.voices.voice.Reads as voice-reads
 
 abbrev Inv-loop : tie.InvT-loop
 Inv-loop image k given centres tried i₀ t7 t8 i = Unit {0}

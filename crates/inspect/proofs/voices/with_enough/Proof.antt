@@ -3,10 +3,6 @@ use lib.Seq.{length-take-le}
 use borrow.Author.Needs.{needs}
 use Rattle.inspect.proofs.voices.with_enough.Statement.{statement}
 use Rattle.inspect.proofs.voices.with_enough.Tie as tie
-use Rattle.inspect.proofs.voices.with_enough.Reads as reads
-use Rattle.inspect.proofs.voices.with_enough.Lts as lts
-use Rattle.inspect.proofs.voices.try_making.Reads as try-making-reads
-use Rattle.sounder.proofs.images.sounder_desk.Reads as sounder-desk-reads
 
 -- src/voices.rt:42:9
 sounder-desk-requires : tie.Need-sounder-desk-requires

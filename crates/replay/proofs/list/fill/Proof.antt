@@ -5,10 +5,6 @@ use lib.ListN.{length}
 use mathlib.Core.Path.{_≡_}
 use Rattle.replay.proofs.list.fill.Statement.{statement}
 use Rattle.replay.proofs.list.fill.Tie as tie
-use Rattle.replay.proofs.list.fill.Reads as reads
-use Rattle.replay.proofs.list.fill.Lts as lts
-use Rattle.replay.proofs.list.float_at.Reads as float-at-reads
-use Rattle.replay.proofs.list.place.Reads as place-reads
 
 abbrev Inv-loop : tie.InvT-loop
 Inv-loop s at out₀ i₀ out i = (i ≤ length out₀) × (length out ≡ length out₀)

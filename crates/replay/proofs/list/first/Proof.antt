@@ -7,8 +7,6 @@ use mathlib.Core.Path.{sym}
 use lib.Seq.{length-take-le}
 use Rattle.replay.proofs.list.first.Statement.{statement}
 use Rattle.replay.proofs.list.first.Tie as tie
-use Rattle.replay.proofs.list.first.Reads as reads
-use Rattle.replay.proofs.list.first.Lts as lts
 
 -- src/list.rt:117:9
 slice-aggregate-result : tie.Need-slice-aggregate-result

@@ -3,13 +3,6 @@ use borrow.Author.Needs.{needs}
 use Prim.Native.Nat.{_≤_, _-_}
 use Rattle.replay.proofs.places.changed.Statement.{statement}
 use Rattle.replay.proofs.places.changed.Tie as tie
-use Rattle.replay.proofs.places.changed.Reads as reads
-use Rattle.replay.proofs.places.changed.Lts as lts
-use Rattle.replay.proofs.list.count.Reads as count-reads
-use Rattle.replay.proofs.list.place.Reads as place-reads
-use Rattle.replay.proofs.list.plus.Reads as plus-reads
-use Rattle.replay.proofs.list.word.Reads as word-reads
-use Rattle.replay.proofs.places.set.Reads as set-reads
 
 abbrev Inv-loop : tie.InvT-loop
 Inv-loop v₀ r at n i₀ v i = i ≤ n

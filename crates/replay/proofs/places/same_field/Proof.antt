@@ -3,10 +3,6 @@ use borrow.Author.Needs.{needs}
 use Prim.Native.Nat.{_≤_, _-_}
 use Rattle.replay.proofs.places.same_field.Statement.{statement}
 use Rattle.replay.proofs.places.same_field.Tie as tie
-use Rattle.replay.proofs.places.same_field.Reads as reads
-use Rattle.replay.proofs.places.same_field.Lts as lts
-use Rattle.replay.proofs.places.float_of.Reads as float-of-reads
-use Rattle.replay.proofs.tally.same_float.Reads as same-float-reads
 
 abbrev Inv-loop : tie.InvT-loop
 Inv-loop what field ours theirs t₀ i₀ t i = i ≤ 16

@@ -4,9 +4,6 @@ use Prim.Native.Nat.{_≤_, _-_}
 use lib.ListN.{length}
 use Rattle.replay.proofs.places.same_floats.Statement.{statement}
 use Rattle.replay.proofs.places.same_floats.Tie as tie
-use Rattle.replay.proofs.places.same_floats.Reads as reads
-use Rattle.replay.proofs.places.same_floats.Lts as lts
-use Rattle.replay.proofs.tally.same_float.Reads as same-float-reads
 
 abbrev Inv-loop : tie.InvT-loop
 Inv-loop what ours theirs t₀ i₀ t i = i ≤ length ours

@@ -3,9 +3,6 @@ use borrow.Author.Needs.{needs}
 use Prim.Native.Nat.{_≤_, _-_}
 use Rattle.replay.proofs.places.same_live.Statement.{statement}
 use Rattle.replay.proofs.places.same_live.Tie as tie
-use Rattle.replay.proofs.places.same_live.Reads as reads
-use Rattle.replay.proofs.places.same_live.Lts as lts
-use Rattle.replay.proofs.tally.same_count.Reads as same-count-reads
 
 abbrev Inv-loop : tie.InvT-loop
 Inv-loop ours theirs t₀ i₀ t8 t i = i ≤ 16

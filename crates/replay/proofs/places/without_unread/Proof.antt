@@ -3,8 +3,6 @@ use borrow.Author.Needs.{needs}
 use Prim.Native.Nat.{_≤_, _-_}
 use Rattle.replay.proofs.places.without_unread.Statement.{statement}
 use Rattle.replay.proofs.places.without_unread.Tie as tie
-use Rattle.replay.proofs.places.without_unread.Reads as reads
-use Rattle.replay.proofs.places.without_unread.Lts as lts
 
 abbrev Inv-loop : tie.InvT-loop
 Inv-loop m v₀ i₀ v i = i ≤ 2048

@@ -3,12 +3,6 @@ use borrow.Author.Needs.{needs}
 use Prim.Native.Nat.{_≤_, _-_}
 use Rattle.replay.proofs.playing.calls.Statement.{statement}
 use Rattle.replay.proofs.playing.calls.Tie as tie
-use Rattle.replay.proofs.playing.calls.Reads as reads
-use Rattle.replay.proofs.playing.calls.Lts as lts
-use Rattle.replay.proofs.list.count.Reads as count-reads
-use Rattle.replay.proofs.list.plus.Reads as plus-reads
-use Rattle.replay.proofs.playing.call.Reads as call-reads
-use Rattle.replay.proofs.tally.more.Reads as more-reads
 
 abbrev Inv-loop : tie.InvT-loop
 Inv-loop r at n s₀ i₀ s i = i ≤ n

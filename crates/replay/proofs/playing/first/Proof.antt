@@ -7,8 +7,6 @@ use mathlib.Core.Path.{sym}
 use lib.Seq.{length-take-le}
 use Rattle.replay.proofs.playing.first.Statement.{statement}
 use Rattle.replay.proofs.playing.first.Tie as tie
-use Rattle.replay.proofs.playing.first.Reads as reads
-use Rattle.replay.proofs.playing.first.Lts as lts
 
 -- src/playing.rt:52:9
 slice-aggregate-result : tie.Need-slice-aggregate-result

@@ -5,19 +5,6 @@ use borrow.Author.Needs.{needs}
 use Rattle.replay.proofs.Parts.{part-length, kept-length}
 use Rattle.replay.proofs.playing.played.Statement.{statement}
 use Rattle.replay.proofs.playing.played.Tie as tie
-use Rattle.replay.proofs.playing.played.Reads as reads
-use Rattle.replay.proofs.playing.played.Lts as lts
-use Rattle.replay.proofs.list.count.Reads as count-reads
-use Rattle.replay.proofs.list.plus.Reads as plus-reads
-use Rattle.replay.proofs.list.word.Reads as word-reads
-use Rattle.replay.proofs.playing.after_inputs.Reads as after-inputs-reads
-use Rattle.replay.proofs.playing.after_samples.Reads as after-samples-reads
-use Rattle.replay.proofs.playing.concluded.Reads as concluded-reads
-use Rattle.replay.proofs.playing.first.Reads as first-reads
-use Rattle.replay.proofs.playing.play_into.Reads as play-into-reads
-use Rattle.replay.proofs.playing.sounded.Reads as sounded-reads
-use Rattle.replay.proofs.tally.narrow.Reads as narrow-reads
-use Rattle.replay.proofs.tally.same.Reads as same-reads
 
 -- src/playing.rt:163:9
 after-inputs-requires : tie.Need-after-inputs-requires

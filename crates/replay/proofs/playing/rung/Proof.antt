@@ -4,11 +4,6 @@ use Prim.Native.Nat.{_≤_, _-_}
 use lib.ListN.{length}
 use Rattle.replay.proofs.playing.rung.Statement.{statement}
 use Rattle.replay.proofs.playing.rung.Tie as tie
-use Rattle.replay.proofs.playing.rung.Reads as reads
-use Rattle.replay.proofs.playing.rung.Lts as lts
-use Rattle.replay.proofs.list.place.Reads as place-reads
-use Rattle.replay.proofs.places.band.Reads as band-reads
-use Rattle.replay.proofs.playing.rung_band.Reads as rung-band-reads
 
 abbrev Inv-loop : tie.InvT-loop
 Inv-loop r at lists rate centres t₀ i₀ t i = i ≤ length centres

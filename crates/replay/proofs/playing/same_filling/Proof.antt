@@ -4,9 +4,6 @@ use Prim.Native.Nat.{_≤_, _-_}
 use lib.ListN.{length}
 use Rattle.replay.proofs.playing.same_filling.Statement.{statement}
 use Rattle.replay.proofs.playing.same_filling.Tie as tie
-use Rattle.replay.proofs.playing.same_filling.Reads as reads
-use Rattle.replay.proofs.playing.same_filling.Lts as lts
-use Rattle.replay.proofs.tally.same_float.Reads as same-float-reads
 
 abbrev Inv-loop : tie.InvT-loop
 Inv-loop ours t₀ i₀ t5 t i = i ≤ length ours

@@ -4,12 +4,6 @@ use Prim.Native.Nat.{_≤_, _-_}
 use lib.ListN.{length}
 use Rattle.replay.proofs.playing.same_samples.Statement.{statement}
 use Rattle.replay.proofs.playing.same_samples.Tie as tie
-use Rattle.replay.proofs.playing.same_samples.Reads as reads
-use Rattle.replay.proofs.playing.same_samples.Lts as lts
-use Rattle.replay.proofs.list.float_at.Reads as float-at-reads
-use Rattle.replay.proofs.list.place.Reads as place-reads
-use Rattle.replay.proofs.tally.more.Reads as more-reads
-use Rattle.replay.proofs.tally.same_float.Reads as same-float-reads
 
 abbrev Inv-loop : tie.InvT-loop
 Inv-loop r at ours t₀ i₀ t7 t i = i ≤ length ours

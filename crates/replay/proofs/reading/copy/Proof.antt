@@ -5,8 +5,6 @@ use lib.ListN.{length}
 use mathlib.Core.Path.{_≡_}
 use Rattle.replay.proofs.reading.copy.Statement.{statement}
 use Rattle.replay.proofs.reading.copy.Tie as tie
-use Rattle.replay.proofs.reading.copy.Reads as reads
-use Rattle.replay.proofs.reading.copy.Lts as lts
 
 abbrev Inv-loop : tie.InvT-loop
 Inv-loop from to₀ i₀ to i = (i ≤ length from) × (length to ≡ length to₀)

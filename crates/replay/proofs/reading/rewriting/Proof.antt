@@ -5,19 +5,6 @@ use borrow.Author.Needs.{needs}
 use Rattle.replay.proofs.Parts.{part-length, kept-length}
 use Rattle.replay.proofs.reading.rewriting.Statement.{statement}
 use Rattle.replay.proofs.reading.rewriting.Tie as tie
-use Rattle.replay.proofs.reading.rewriting.Reads as reads
-use Rattle.replay.proofs.reading.rewriting.Lts as lts
-use Rattle.replay.proofs.list.after_bytes.Reads as after-bytes-reads
-use Rattle.replay.proofs.list.bytes_at.Reads as bytes-at-reads
-use Rattle.replay.proofs.list.first.Reads as first-reads
-use Rattle.replay.proofs.list.place.Reads as place-reads
-use Rattle.replay.proofs.list.word.Reads as word-reads
-use Rattle.replay.proofs.reading.same_bytes.Reads as same-bytes-reads
-use Rattle.replay.proofs.reading.target_of.Reads as target-of-reads
-use Rattle.replay.proofs.tally.answered.Reads as answered-reads
-use Rattle.replay.proofs.tally.narrow.Reads as narrow-reads
-use Rattle.replay.proofs.tally.same.Reads as same-reads
-use Rattle.sounder.proofs.images.sounder_to_bytes.Reads as sounder-to-bytes-reads
 
 -- src/reading.rt:128:9
 bytes-at-requires : tie.Need-bytes-at-requires

@@ -4,11 +4,6 @@ use Prim.Native.Nat.{_≤_, _-_}
 use lib.ListN.{length}
 use Rattle.replay.proofs.reading.same_bytes.Statement.{statement}
 use Rattle.replay.proofs.reading.same_bytes.Tie as tie
-use Rattle.replay.proofs.reading.same_bytes.Reads as reads
-use Rattle.replay.proofs.reading.same_bytes.Lts as lts
-use Rattle.replay.proofs.reading.wide.Reads as wide-reads
-use Rattle.replay.proofs.tally.narrow.Reads as narrow-reads
-use Rattle.replay.proofs.tally.same.Reads as same-reads
 
 abbrev Inv-loop : tie.InvT-loop
 Inv-loop what ours theirs t₀ i₀ t i = i ≤ length ours

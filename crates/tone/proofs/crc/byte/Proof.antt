@@ -1,11 +1,7 @@
 use Prim.Native.Nat.{_-_}
-use lib.ListN.{length}
 use borrow.Author.Needs.{needs}
 use Rattle.tone.proofs.crc.byte.Statement.{statement}
 use Rattle.tone.proofs.crc.byte.Tie as tie
-use Rattle.tone.proofs.crc.byte.Reads as reads
-use Rattle.tone.proofs.crc.byte.Lts as lts
-use Rattle.tone.proofs.crc.step.Reads as step-reads
 
 abbrev Inv-loop : tie.InvT-loop
 Inv-loop c b r₀ i₀ r i = Unit {0}

@@ -3,9 +3,6 @@ use lib.ListN.{length}
 use borrow.Author.Needs.{needs}
 use Rattle.tone.proofs.crc.update.Statement.{statement}
 use Rattle.tone.proofs.crc.update.Tie as tie
-use Rattle.tone.proofs.crc.update.Reads as reads
-use Rattle.tone.proofs.crc.update.Lts as lts
-use Rattle.tone.proofs.crc.byte.Reads as byte-reads
 
 abbrev Inv-loop : tie.InvT-loop
 Inv-loop c s r₀ i₀ r i = Unit {0}

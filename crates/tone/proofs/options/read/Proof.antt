@@ -1,13 +1,7 @@
 use Prim.Native.Nat.{_-_}
-use lib.ListN.{length}
 use borrow.Author.Needs.{needs}
 use Rattle.tone.proofs.options.read.Statement.{statement}
 use Rattle.tone.proofs.options.read.Tie as tie
-use Rattle.tone.proofs.options.read.Reads as reads
-use Rattle.tone.proofs.options.read.Lts as lts
-use Rattle.os.proofs.arg_count.Reads as arg-count-reads
-use Rattle.tone.proofs.options.defaults.Reads as defaults-reads
-use Rattle.tone.proofs.options.take_argument.Reads as take-argument-reads
 
 abbrev Inv-loop : tie.InvT-loop
 Inv-loop count o₀ i₀ o i = Unit {0}

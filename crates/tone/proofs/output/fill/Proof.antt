@@ -1,12 +1,7 @@
 use Prim.Native.Nat.{_-_}
-use lib.ListN.{length}
 use borrow.Author.Needs.{needs}
 use Rattle.tone.proofs.output.fill.Statement.{statement}
 use Rattle.tone.proofs.output.fill.Tie as tie
-use Rattle.tone.proofs.output.fill.Reads as reads
-use Rattle.tone.proofs.output.fill.Lts as lts
-use Rattle.tone.proofs.output.is_well.Reads as is-well-reads
-use Rattle.tone.proofs.output.nth.Reads as nth-reads
 
 abbrev Inv-loop : tie.InvT-loop
 Inv-loop o fd total blocks run₀ b₀ run b = Unit {0}

@@ -5,8 +5,6 @@ use lib.Seq.{length-take-le}
 use borrow.Author.Needs.{needs}
 use Rattle.tone.proofs.output.put_part.Statement.{statement}
 use Rattle.tone.proofs.output.put_part.Tie as tie
-use Rattle.tone.proofs.output.put_part.Reads as reads
-use Rattle.tone.proofs.output.put_part.Lts as lts
 
 -- src/output.rt:198:9
 returns : tie.Need-returns

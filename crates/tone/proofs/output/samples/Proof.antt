@@ -3,8 +3,6 @@ use native.Mathlib.Nat.{mul-le-mul-right}
 use borrow.Author.Needs.{needs}
 use Rattle.tone.proofs.output.samples.Statement.{statement}
 use Rattle.tone.proofs.output.samples.Tie as tie
-use Rattle.tone.proofs.output.samples.Reads as reads
-use Rattle.tone.proofs.output.samples.Lts as lts
 
 -- src/output.rt:16:9
 returns : tie.Need-returns

@@ -3,15 +3,6 @@ use Rattle.console.proofs.Parts.{part-length}
 use borrow.Author.Needs.{needs}
 use Rattle.tone.proofs.playing.block.Statement.{statement}
 use Rattle.tone.proofs.playing.block.Tie as tie
-use Rattle.tone.proofs.playing.block.Reads as reads
-use Rattle.tone.proofs.playing.block.Lts as lts
-use Rattle.sounder.proofs.voices.sounder_play.Reads as sounder-play-reads
-use Rattle.tone.proofs.playing.bytes_of.Reads as bytes-of-reads
-use Rattle.tone.proofs.playing.frequencies.Reads as frequencies-reads
-use Rattle.tone.proofs.playing.peak_of.Reads as peak-of-reads
-use Rattle.tone.proofs.playing.shape.Reads as shape-reads
-use Rattle.tone.proofs.playing.steady.Reads as steady-reads
-use Rattle.tone.proofs.sink.send.Reads as send-reads
 
 -- src/playing.rt:93:9
 returns : tie.Need-returns

@@ -5,10 +5,6 @@ use lib.ListN.{length}
 use borrow.Author.Needs.{needs}
 use Rattle.tone.proofs.playing.bytes_of.Statement.{statement}
 use Rattle.tone.proofs.playing.bytes_of.Tie as tie
-use Rattle.tone.proofs.playing.bytes_of.Reads as reads
-use Rattle.tone.proofs.playing.bytes_of.Lts as lts
-use Rattle.tone.proofs.playing.bits.Reads as bits-reads
-use Rattle.tone.proofs.playing.octet.Reads as octet-reads
 
 abbrev Inv-loop : tie.InvT-loop
 Inv-loop samples bytes₀ i₀ bytes i = length bytes ≡ 512

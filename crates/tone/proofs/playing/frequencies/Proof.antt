@@ -5,10 +5,6 @@ use lib.ListN.{length}
 use borrow.Author.Needs.{needs}
 use Rattle.tone.proofs.playing.frequencies.Statement.{statement}
 use Rattle.tone.proofs.playing.frequencies.Tie as tie
-use Rattle.tone.proofs.playing.frequencies.Reads as reads
-use Rattle.tone.proofs.playing.frequencies.Lts as lts
-use Rattle.std.proofs.num.wrapping_add_u32.Reads as wrapping-add-u32-reads
-use Rattle.tone.proofs.playing.frequency.Reads as frequency-reads
 
 abbrev Inv-loop : tie.InvT-loop
 Inv-loop o first total f₀ i₀ sample₀ f i sample = length f ≡ 128

@@ -1,12 +1,7 @@
 use Prim.Native.Nat.{_-_}
-use lib.ListN.{length}
 use borrow.Author.Needs.{needs}
 use Rattle.tone.proofs.playing.peak_of.Statement.{statement}
 use Rattle.tone.proofs.playing.peak_of.Tie as tie
-use Rattle.tone.proofs.playing.peak_of.Reads as reads
-use Rattle.tone.proofs.playing.peak_of.Lts as lts
-use Rattle.tone.proofs.playing.bits.Reads as bits-reads
-use Rattle.tone.proofs.playing.larger.Reads as larger-reads
 
 abbrev Inv-loop : tie.InvT-loop
 Inv-loop samples n before peak₀ i₀ peak i = Unit {0}
