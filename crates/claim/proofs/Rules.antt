@@ -20,7 +20,7 @@ use Rattle.voice.specs.Input.{Call, partOf, frequencyAt, frequencyOk, cleaned}
 use Rattle.voice.specs.Voice.{pitches, stretches, phaseOk, pitchOk, stretchOk, countsOk, phasesOk, rulesOf, keepsRules, withState, firstState}
 use Rattle.player.specs.Sound.{sidesAt, stretchAt, stepAt, movedPhases, moved}
 use Rattle.player.specs.Block.{stateAt, blockEnd}
-use Rattle.player.specs.Passes.{EntriesFit}
+use Rattle.player.specs.inner.Passes.{EntriesFit}
 use Rattle.voice.specs.Question.{ask, accepted, callQuestion, playQuestion}
 use Rattle.player.specs.Play.{played}
 use Rattle.voice.specs.Restart.{resetOf, reseedOf, reseededState}

@@ -1,4 +1,5 @@
--- How loud white noise comes out of a band: an impulse goes in, the band is rung n times, and the squares of what comes out are summed. The compensation makes up for it.
+-- How loud white noise comes out of a band: an impulse goes in, the band is rung n times, and the squares of what comes out are summed.
+-- The compensation makes up for it.
 use Prim.Native.Nat.{ℕ, zero, suc, min, max}
 use mathlib.Core.Bool.{Bool, true, false, _&&_}
 use lib.Ieee.{Float, nan, inf, fin, toUnsigned}
@@ -14,7 +15,8 @@ use Rattle.filters.specs.declared.compensation.NoisePower.{NoisePower}
 abbrev pub pi : Float
 pi = nearest 3141592653589793 1000000000000000
 
--- tau: sample rate / (f32 π × centre), at least 1. The Rust's Q and its centre of at least 1 stand in it too: a voice's Q is 1 and its centres are at least 20, so that there they change nothing.
+-- tau: sample rate / (f32 π × centre), at least 1. The Rust's Q and its centre of at least 1 stand in it too: a voice's Q is 1 and its
+-- centres are at least 20, so that there they change nothing.
 abbrev pub tauOf : Float → Float → Float → Float
 tauOf freq q rate = maximum (q ⊗ rate ⊘ (pi ⊗ maximum freq (nearest 1 1))) (nearest 1 1)
 

@@ -65,8 +65,9 @@ fn is_plus_zero(x: f32) -> bool
     false
 }
 
-// The same for a quiet band, in half the time: from the second sample on the input is 0, and what the tick adds for it, +0, can change nothing but
-// the sign of a zero. So y is z2 - a1 * (the y before), with that sign seen to beforehand, where a tick waits for four operations.
+// The same for a quiet band, in half the time: from the second sample on the input is 0, and what the tick adds for it, +0, can change
+// nothing but the sign of a zero. So y is z2 - a1 * (the y before), with that sign seen to beforehand, where a tick waits for four
+// operations.
 fn ring_quiet(c: BiquadCoeffs, n: u32) -> NoisePower
     requires { ⌜ quiet c ≡ true ⌝ ∗ ⌜ 0 < n ⌝ }
     ensures { λ r. ⌜ r ≡ rung c n ⌝ }

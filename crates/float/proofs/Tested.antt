@@ -1,13 +1,12 @@
 -- A float that passes the test of `fault` is the root. Assumes nothing.
-use mathlib.Core.Path.{_≡_, refl, sym, ap, _∙_, subst}
-use Prim.Native.Nat.{ℕ, zero, suc, _+_, _-_, _*_, _/_, _%_, _^_, _≤_, _<_}
+use mathlib.Core.Path.{_≡_, sym, ap, _∙_, subst}
+use Prim.Native.Nat.{ℕ, _+_, _-_, _*_, _/_, _%_, _^_, _≤_, _<_}
 use native.Mathlib.Nat.{mul-le-mul}
 use native.Mathlib.Omega.{arith}
 use mathlib.Core.Bool.{Bool, true, false, cond}
 use lib.Dec.{T, lit<}
 use lib.Ieee.{Float, nan, inf, fin, binary32, fits, lt, le, toBits, ofBits}
 use lib.Ieee.Bits.{ofBits-toBits}
-use Rattle.float.specs.Root.{root}
 use Rattle.float.specs.Sqrt.{none, smallest, scaled, significand, rootBits, normalRoot, sqrt}
 use Rattle.float.proofs.RootLaws.{nearest-is, significand-small, quartered, is-significand}
 use Rattle.float.proofs.Patterns.{plain-pattern}

@@ -1,5 +1,6 @@
 -- The larger and the smaller of two floats, as Rust's `f32::max` and `f32::min`: a NaN gives the other operand, and two NaNs give NaN.
--- Of two equal floats the answer is the first operand. So it is for the two zeros: the maximum of -0 and 0 is -0, that of 0 and -0 is 0. Rust leaves that open.
+-- Of two equal floats the answer is the first operand. So it is for the two zeros: the maximum of -0 and 0 is -0, that of 0 and -0 is 0.
+-- Rust leaves that open.
 use mathlib.Core.Bool.{cond}
 use lib.Ieee.{Float, isNan, lt}
 

@@ -36,7 +36,8 @@ normalRoot x = ofBits binary32 (rootBits (toBits binary32 x))
 
 -- a positive float that is too small to be normal is multiplied by 2 ^ 24 first, and the root by 2 ^ -12; both products are exact
 abbrev pub positiveRoot : Float → Float
-positiveRoot x = cond (lt x smallest) (mul binary32 (normalRoot (mul binary32 x (fin false 1 (pos 24)))) (fin false 1 (negsuc 11))) (normalRoot x)
+positiveRoot x = cond (lt x smallest) (mul binary32 (normalRoot (mul binary32 x (fin false 1 (pos 24)))) (fin false 1 (negsuc 11)))
+    (normalRoot x)
 
 -- -0 and 0 are their own roots; what is below 0 has none
 unfoldable pub sqrt : Float → Float

@@ -14,8 +14,8 @@ fn bits_above_zero(x: f32) -> u32
     if x > 0.0 { f32::to_bits(x) } else { 0 }
 }
 
-// 0 only where p is the pattern of the root of the pattern b: what p has beyond the root's exponent is h, the whole number nearest to the root of n.
-// That is so where h * h is below n + h and n at most h * h + h. A p below the exponent gives an h that is far too large.
+// 0 only where p is the pattern of the root of the pattern b: what p has beyond the root's exponent is h, the whole number nearest to the
+// root of n. That is so where h * h is below n + h and n at most h * h + h. A p below the exponent gives an h that is far too large.
 fn square_fault(b: u32, p: u32) -> u32
     requires { ⌜ (b < 2147483648) × (p < 2147483648) ⌝ }
     ensures { λ r. ⌜ (r ≤ 2) × (r ≡ 0 → p ≡ rootBits b) ⌝ }
@@ -29,7 +29,8 @@ fn square_fault(b: u32, p: u32) -> u32
     (low + high) as u32
 }
 
-// 0 only where y is the root of x. Of an x below the normal floats it tests only that it is a zero, its own root: that y is x there is what `guess` ensures.
+// 0 only where y is the root of x. Of an x below the normal floats it tests only that it is a zero, its own root: that y is x there is
+// what `guess` ensures.
 pub(crate) fn fault(x: f32, y: f32) -> u32
     ensures { λ r. ⌜ (r ≤ 2) × (r ≡ 0 → Kept x y → IsRoot x y) ⌝ }
 {

@@ -1,5 +1,6 @@
 // The square roots of a column of floats.
-// Guesses first, then a test of all of them, each in a loop without exits that the machine takes four at a time. Where the test finds a fault, the roots are taken one by one.
+// Guesses first, then a test of all of them, each in a loop without exits that the machine takes four at a time. Where the test finds a
+// fault, the roots are taken one by one.
 ghost use mathlib.Core.Path.{_≡_};
 ghost use mathlib.Core.Logic.{_⊎_};
 ghost use Prim.Native.Nat.{_≤_};

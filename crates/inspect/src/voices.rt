@@ -1,8 +1,8 @@
 // Which voices can be made of a table, at 48,000 samples a second.
 use console::say;
 use console::words;
-use sounder::voices::sounder_make;
 use sounder::images::sounder_desk;
+use sounder::voices::sounder_make;
 
 // The kind of a voice: 0 is a single one of the channel, 1 a blend.
 fn say_kind(kind: u32, channel: u32) {

@@ -9,7 +9,7 @@ use lib.ListN.{length, take, drop, getD, set, replicate, length-append, length-m
 use lib.Seq.{drop-cons, set-at, take-suc, length-take-le}
 use Rattle.wire.specs.Parse.{pick}
 use Rattle.voice.specs.Lists.{upTo, padded}
-use Rattle.making.specs.Live.{liveOf, addLive}
+use Rattle.making.specs.inner.Live.{liveOf, addLive}
 use Rattle.making.specs.Making.{all}
 
 -- the element after those that are set

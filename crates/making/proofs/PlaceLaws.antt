@@ -11,8 +11,8 @@ use Rattle.table.specs.declared.desk.Kind.{Kind}
 use Rattle.table.specs.View.{entryAt}
 use Rattle.float.specs.F32.{nearest}
 use Rattle.making.specs.Making.{partialCoeff, noiseCoeff, inSlot, slotChannel, ofEntry, partialPlace, noisePlace}
-use Rattle.making.specs.Views.{viewed}
-use Rattle.making.specs.Views.{noView}
+use Rattle.making.specs.inner.Views.{viewed}
+use Rattle.making.specs.inner.Views.{noView}
 use Rattle.making.proofs.GatherLaws.{nth-view, nth-past}
 
 pub row-of : (x n w : ℕ) → 0 < w → x < w * n → x / w < n

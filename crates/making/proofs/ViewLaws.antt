@@ -13,7 +13,7 @@ use lib.Seq.{drop-cons, getD-take, length-take-le}
 use Rattle.table.specs.declared.entry.EntryView.{EntryView}
 use Rattle.table.specs.Table.{PitchEntry}
 use Rattle.table.specs.View.{entryAt}
-use Rattle.making.specs.Views.{noView}
+use Rattle.making.specs.inner.Views.{noView}
 use Rattle.voice.proofs.Loops.{both-true}
 
 -- the entries from index i on, of the first n views

@@ -1,5 +1,3 @@
 pub mod Making
-pub mod Views
 pub mod MakeAnswer
-pub mod Live
-pub mod Columns
+pub mod inner

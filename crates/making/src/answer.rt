@@ -9,7 +9,7 @@ ghost use lib.Ieee.Scale.{finite};
 ghost use Rattle.table.specs.Table.{hasChannel};
 ghost use Rattle.table.specs.Desk.{bandCount};
 ghost use Rattle.making.specs.Making.{any, all, sizesOk, channelFound, centresOk, tableQuestion};
-ghost use Rattle.making.specs.Views.{viewed, laterQuestion};
+ghost use Rattle.making.specs.inner.Views.{viewed, laterQuestion};
 ghost use Rattle.making.specs.MakeAnswer.{makeRefusal};
 use crate::limits::sizes_ok;
 use crate::values::ValuesAnswer;

@@ -5,7 +5,7 @@ ghost use mathlib.Core.List.{List};
 ghost use Rattle.table.specs.View.{entryAt};
 ghost use Rattle.table.specs.Desk.{bandCount};
 ghost use Rattle.making.specs.Making.{mostChannels, channelCount, reach, reachIn, phasesFor, phaseCount};
-ghost use Rattle.making.specs.Views.{viewed};
+ghost use Rattle.making.specs.inner.Views.{viewed};
 use crate::coeffs::partial_coeff;
 use table::desk::Kind;
 use table::desk::bands_of;

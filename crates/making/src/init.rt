@@ -5,7 +5,7 @@ ghost use lib.ListN.{length};
 ghost use mathlib.Core.Bool.{true};
 ghost use Rattle.voice.specs.Voice.{rateOk};
 ghost use Rattle.filters.specs.Band.{zeroCoeffs};
-ghost use Rattle.making.specs.Columns.{bandsFrom};
+ghost use Rattle.making.specs.inner.Columns.{bandsFrom};
 use filters::BiquadCoeffs;
 use filters::init_band;
 

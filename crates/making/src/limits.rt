@@ -4,7 +4,7 @@ ghost use Prim.Native.Nat.{ℕ, _≤_};
 ghost use mathlib.Core.List.{List};
 ghost use Rattle.table.specs.View.{entryAt};
 ghost use Rattle.making.specs.Making.{all, sizesOk};
-ghost use Rattle.making.specs.Views.{viewed};
+ghost use Rattle.making.specs.inner.Views.{viewed};
 use table::entry::EntryView;
 
 fn size_ok(v: EntryView) -> bool

@@ -4,7 +4,7 @@ ghost use Prim.Native.Nat.{_+_, _≤_};
 ghost use mathlib.Core.List.{_++_};
 ghost use lib.ListN.{length, take, drop};
 ghost use Rattle.making.specs.Making.{bandFloats};
-ghost use Rattle.making.specs.Columns.{listsFrom};
+ghost use Rattle.making.specs.inner.Columns.{listsFrom};
 use crate::fill::Columns;
 use crate::init::Bands;
 use filters::BiquadCoeffs;

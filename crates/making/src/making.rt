@@ -7,7 +7,7 @@ ghost use lib.ListN.{length};
 ghost use Rattle.table.specs.Desk.{bandCount};
 ghost use Rattle.voice.specs.Voice.{rateOk};
 ghost use Rattle.making.specs.Making.{all, sizesOk, kindNumber, kindChannel, freshVoice, blankVoice, making, makeOf};
-ghost use Rattle.making.specs.Views.{viewed};
+ghost use Rattle.making.specs.inner.Views.{viewed};
 ghost use Rattle.making.specs.MakeAnswer.{makeRefusal, madeOf, tableMade};
 use crate::answer::MakeAnswer;
 use crate::answer::is_done;

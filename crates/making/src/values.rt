@@ -6,7 +6,7 @@ ghost use Rattle.wire.specs.Parse.{Refusal};
 ghost use Rattle.table.specs.View.{entryAt};
 ghost use Rattle.table.specs.Answer.{foundBits};
 ghost use Rattle.making.specs.Making.{f32, all, presentFinite, valuesOk, askValues};
-ghost use Rattle.making.specs.Views.{viewed, valuesThen};
+ghost use Rattle.making.specs.inner.Views.{viewed, valuesThen};
 use table::Found;
 use table::entry::EntryView;
 use table::entry::metadata_value;

@@ -9,24 +9,22 @@ use native.Mathlib.Nat.{eq-or-lt-of-le}
 use native.Mathlib.Omega.{arith}
 use lib.ListN.{length, getD}
 use lib.Dec.{T, eqb, ltb, eqb→eq}
-use lib.Ieee.{Float, nan, binary32, fits, ne}
+use lib.Ieee.{Float, nan, binary32, fits}
 use borrow.Author.Tests.{eq-eqb, ltb-true}
 use Rattle.wire.specs.Parse.{pick}
 use Rattle.float.specs.Sqrt.{sqrt}
-use Rattle.float.proofs.Identities.{add-minus-zero}
 use Rattle.float.specs.F32.{_⊕_, _⊗_, nearest}
-use Rattle.voice.specs.Lists.{Filled, FilledRows, steps, every}
+use Rattle.voice.specs.Lists.{Filled, FilledRows, steps}
 use Rattle.filters.specs.Biquad.{tickOf}
 use Rattle.player.specs.Bracket.{between}
 use Rattle.voice.specs.Voice.{noiseGains, compensations, bandAt, memoryAt, withMemory}
 use Rattle.player.specs.Sound.{sidesAt, noiseRow, noiseIn, tickAt, addNoiseSingle, addNoiseBlend, blendPower, noiseTerm, noiseSum, movedMemories}
-use Rattle.player.specs.Passes.{LiveFit}
-use Rattle.player.specs.Columns.{stateOfColumns, coeffsOfRows, Memories, Coeffs, Ticked, scattered, singleTerm, blendTerm}
+use Rattle.player.specs.inner.Passes.{LiveFit}
+use Rattle.player.specs.inner.Columns.{stateOfColumns, coeffsOfRows, Memories, Coeffs, Ticked, scattered, singleTerm, blendTerm}
 use Rattle.player.specs.declared.pitch.bracket.Sides.{Sides}
 use Rattle.filters.specs.declared.biquad.BiquadState.{BiquadState}
 use Rattle.filters.specs.declared.biquad.Tick.{Tick}
 use Rattle.filters.specs.declared.rng.Rng.{Rng}
-use Rattle.voice.specs.declared.voice.State.{State}
 use Rattle.voice.specs.declared.voice.Voice.{Voice}
 use Rattle.voice.proofs.Loops.{every-at}
 use Rattle.voice.proofs.MemoryLaws.{length-with, memory-written, memory-kept, memories-same}

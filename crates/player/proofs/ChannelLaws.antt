@@ -1,7 +1,7 @@
 -- A channel's two passes put together: the state after each sample, and what is audible; and the voices of each pass beside the whole one.
 use mathlib.Core.Path.{_≡_, refl, sym, ap, _∙_}
 use mathlib.Core.List.{List}
-use mathlib.Core.Bool.{Bool, true, false}
+use mathlib.Core.Bool.{true, false}
 use Prim.Native.Nat.{ℕ, zero, suc, _<_}
 use lib.ListN.{length, getD}
 use lib.Dec.{eqb}
@@ -12,7 +12,7 @@ use Rattle.voice.specs.Input.{Call, partOf, frequencyOf, gainsOf, frequencyAt, 
 use Rattle.voice.specs.Voice.{voiceOf, stateOf}
 use Rattle.player.specs.Sound.{sidesAt, movedPhases, movedMemories, movedRng, partialTerm, partialSum, noiseTerm, noiseSum, sound, moved}
 use Rattle.player.specs.Block.{stateAt, channelOut}
-use Rattle.player.specs.Passes.{partialsVoice, noiseVoice, phasesAt, rngAt, memoriesAt, partialsOut, noisy, noiseOut, PartialsPlayed, NoisePlayed, ChannelPlayed}
+use Rattle.player.specs.inner.Passes.{partialsVoice, noiseVoice, phasesAt, rngAt, memoriesAt, partialsOut, noisy, noiseOut, PartialsPlayed, NoisePlayed, ChannelPlayed}
 use Rattle.filters.specs.declared.rng.Rng.{Rng}
 use Rattle.voice.specs.declared.voice.Setting.{Setting}
 use Rattle.voice.specs.declared.voice.State.{State}

@@ -17,7 +17,7 @@ use Rattle.float.proofs.Identities.{add-minus-zero}
 use Rattle.voice.specs.Lists.{Filled, FilledRows, mapTo, steps}
 use Rattle.filters.specs.Biquad.{tickOf}
 use Rattle.voice.specs.Voice.{memoryAt}
-use Rattle.player.specs.Columns.{added, audible, minusZero, stateOfColumns, coeffsOfRows, Memories, Ticked}
+use Rattle.player.specs.inner.Columns.{added, audible, minusZero, stateOfColumns, coeffsOfRows, Memories, Ticked}
 use Rattle.filters.specs.declared.biquad.BiquadState.{BiquadState}
 use Rattle.filters.specs.declared.biquad.Tick.{Tick}
 use Rattle.voice.proofs.Loops.{mapTo-at}

@@ -1,7 +1,7 @@
 -- The pass over the live bands: from sample to sample the columns hold the memories of the definitions, and each sample is `noisy`'s.
 use mathlib.Core.Path.{_≡_, refl, sym, ap, _∙_, subst}
 use mathlib.Core.List.{List, _++_}
-use mathlib.Core.Bool.{Bool, true, false}
+use mathlib.Core.Bool.{true, false}
 use Prim.Native.Nat.{ℕ, _+_, _*_, _≤_, _<_}
 use native.Mathlib.Omega.{arith}
 use lib.ListN.{length, getD, set, drop}
@@ -13,18 +13,16 @@ use Rattle.voice.specs.Lists.{Filled, upTo, steps}
 use Rattle.voice.specs.Input.{cleaned}
 use Rattle.filters.specs.Rng.{nextBipolar}
 use Rattle.voice.specs.Voice.{pitches, noiseGains, compensations}
-use Rattle.player.specs.Tuning.{NoiseTuned}
+use Rattle.player.specs.inner.Tuning.{NoiseTuned}
 use Rattle.player.specs.Sound.{sidesAt, noiseIn, movedMemories, movedRng, addNoiseSingle, addNoiseBlend, blendPower}
-use Rattle.player.specs.Passes.{LiveFit, rngAt, memoriesAt, noisy, noiseOut}
-use Rattle.player.specs.Columns.{Memories, Coeffs, Ticked, scattered}
-use Rattle.filters.specs.declared.biquad.BiquadState.{BiquadState}
+use Rattle.player.specs.inner.Passes.{LiveFit, rngAt, memoriesAt, noisy, noiseOut}
+use Rattle.player.specs.inner.Columns.{Memories, Coeffs, Ticked, scattered}
 use Rattle.player.specs.declared.constants.Constants.{Constants}
 use Rattle.filters.specs.declared.rng.Bipolar.{Bipolar}
 use Rattle.filters.specs.declared.rng.Rng.{Rng}
 use Rattle.player.specs.declared.tuning.NoiseTuning.{NoiseTuning}
 use Rattle.voice.specs.declared.voice.Voice.{Voice}
 use Rattle.voice.proofs.Loops.{steps-again, upTo-read, upTo-again, upTo-full}
-use Rattle.player.proofs.SoundLaws.{ConstantsOf}
 use Rattle.player.proofs.ToneLaws.{NoiseTunedTo, noise-stays, untuned-none}
 use Rattle.player.proofs.BandColumns.{AgreeOff, agree-same, agree-moved, length-memories, memories-moved, filtered-at, scattered-is, sum-is-sample}
 

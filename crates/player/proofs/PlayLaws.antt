@@ -6,14 +6,13 @@ use lib.ListN.{length}
 use lib.Ieee.{Float}
 use Rattle.voice.specs.Input.{Call}
 use Rattle.voice.specs.Voice.{withState, stateOf}
-use Rattle.voice.specs.Question.{playNumber, playQuestion, accepted, Outcome}
+use Rattle.voice.specs.Question.{playNumber, playQuestion, accepted}
 use Rattle.player.specs.Block.{blockEnd}
-use Rattle.player.specs.Passes.{BlockPlayed}
+use Rattle.player.specs.inner.Passes.{BlockPlayed}
 use Rattle.player.specs.Play.{played, playedOut, Plays, PlaysParts}
 use Rattle.filters.specs.declared.rng.Rng.{Rng}
 use Rattle.player.specs.declared.playing.Moved.{Moved}
 use Rattle.voice.specs.declared.answer.PlayAnswer.{PlayAnswer}
-use Rattle.voice.specs.declared.voice.State.{State}
 use Rattle.voice.specs.declared.voice.Voice.{Voice}
 use Rattle.voice.proofs.QuestionLaws.{refused, refused-out}
 

@@ -1,8 +1,8 @@
 -- The parts of a sample as the loops work them out, put together to `sound` and `moved`; what a sample keeps of the voice rules.
 use mathlib.Core.Path.{_≡_, refl, sym, ap, _∙_}
-use mathlib.Core.List.{List, [], _∷_, _++_}
+use mathlib.Core.List.{List, [], _∷_}
 use mathlib.Core.Bool.{Bool, true, false, cond, _&&_, _||_}
-use Prim.Native.Nat.{ℕ, zero, suc, _+_, _-_, _*_, _%_, _≤_, _<_}
+use Prim.Native.Nat.{ℕ, zero, suc, _+_, _*_, _%_, _≤_, _<_}
 use native.Mathlib.Omega.{arith}
 use lib.ListN.{length, getD, take, drop, List·getD-eq-default, length-take}
 use lib.Seq.{getD-take, getD-drop}
@@ -11,36 +11,26 @@ use Rattle.float.proofs.Bounds.{le-or-lt}
 use lib.Dec.{eqb, ltb, lit≤}
 use lib.Ieee.{Float, nan, inf, fin, round, le, lt, eq}
 use borrow.Author.Tests.{ltb-true, not-true}
-use Rattle.wire.specs.Parse.{pick}
 use Rattle.float.specs.Range.{Within}
 use Rattle.float.proofs.Within.{le→cross}
 use Rattle.float.proofs.Fraction.{not-lt}
 use Rattle.float.specs.F32.{_⊗_, nearest}
-use Rattle.voice.specs.Lists.{mapTo, upTo, steps, every}
-use Rattle.filters.specs.Rate.{Rate}
-use Rattle.player.specs.Phase.{advanceOf, inverseOf, partialFreq, stepOf}
-use Rattle.player.specs.Fade.{nyquistFade}
-use Rattle.filters.specs.Biquad.{tickOf}
-use Rattle.filters.specs.Rng.{nextBipolar}
+use Rattle.voice.specs.Lists.{upTo, every}
+use Rattle.player.specs.Phase.{inverseOf}
 use Rattle.voice.specs.Input.{partOf, frequencyOf, frequencyOk, frequenciesOk, cleaned}
-use Rattle.player.specs.Passes.{EntriesFit, VoiceFits, FrequenciesFit}
-use Rattle.player.specs.Bracket.{SidesIn, between}
+use Rattle.player.specs.inner.Passes.{EntriesFit, VoiceFits, FrequenciesFit}
+use Rattle.player.specs.Bracket.{SidesIn}
 use Rattle.voice.specs.Voice.{phaseOk, pitchOk, stretchOk, phasesOk, countsOk, entriesOk, liveOk, pitchesAscend, bandsAscend, keepsRules, pitches, stretches}
-use Rattle.player.specs.Sound.{sidesAt, partialRow, noiseRow, movedPhases, addSingle, addBlend, blendCoeff, sound, moved}
+use Rattle.player.specs.Sound.{sound, moved}
 use Rattle.player.specs.Block.{stateAt, channelOut}
 use Rattle.player.specs.declared.pitch.bracket.Sides.{Sides}
-use Rattle.filters.specs.declared.biquad.BiquadState.{BiquadState}
-use Rattle.filters.specs.declared.biquad.Tick.{Tick}
 use Rattle.player.specs.declared.constants.Constants.{Constants}
 use Rattle.voice.specs.declared.voice.Setting.{Setting}
-use Rattle.player.specs.declared.pitch.kept.Pitch.{Pitch}
-use Rattle.filters.specs.declared.rng.Rng.{Rng}
-use Rattle.voice.specs.declared.voice.State.{State}
 use Rattle.voice.specs.declared.voice.Voice.{Voice}
-use Rattle.voice.proofs.Loops.{both-true, every-at, at-every, mapTo-at, steps-again, steps-same, upTo-again, upTo-full, length-upTo, read-any}
+use Rattle.voice.proofs.Loops.{both-true, every-at, steps-same, length-upTo, read-any}
 use Rattle.voice.proofs.QuestionLaws.{kept, counts-are}
 use Rattle.player.proofs.PhaseLaws.{inverse-within}
-use Rattle.player.proofs.RangeLaws.{hold, advance-ok, phase-passes, step-small}
+use Rattle.player.proofs.RangeLaws.{hold}
 use Rattle.filters.proofs.Tests.{rate-is}
 
 -- ---- one sample

@@ -4,7 +4,7 @@ use mathlib.Core.List.{List, [], _∷_}
 use mathlib.Core.Bool.{Bool, true, false}
 use Prim.Native.Nat.{ℕ, zero, suc, _+_, _*_, _≤_, _<_}
 use native.Mathlib.Omega.{arith}
-use lib.ListN.{length, getD}
+use lib.ListN.{getD}
 use lib.Dec.{T, eqb}
 use lib.Ieee.{Float, nan, inf, fin, binary32, eq, fits, le}
 use Rattle.wire.specs.Parse.{pick}
@@ -18,8 +18,8 @@ use Rattle.player.specs.Fade.{nyquistFade}
 use Rattle.voice.specs.Voice.{phaseOk, phasesOk, pitches, stretches, mainlobes, noiseGains}
 use Rattle.player.specs.Sound.{sidesAt, stepAt, fadeAt, partialRow, noiseRow, movedPhases, addSingle, addBlend, blendCoeff, partialTerm, partialSum}
 use Rattle.player.specs.Bracket.{bracketOf, sidesOf, between}
-use Rattle.player.specs.Columns.{added}
-use Rattle.player.specs.Tuning.{Tuned, NoiseTuned, rowsIn}
+use Rattle.player.specs.inner.Columns.{added}
+use Rattle.player.specs.inner.Tuning.{Tuned, NoiseTuned, rowsIn}
 use Rattle.player.specs.declared.pitch.bracket.Sides.{Sides}
 use Rattle.player.specs.declared.constants.Constants.{Constants}
 use Rattle.player.specs.declared.pitch.kept.Pitch.{Pitch}

@@ -19,9 +19,9 @@ use Rattle.voice.specs.Input.{cleaned}
 use Rattle.player.specs.Bracket.{between}
 use Rattle.voice.specs.Voice.{phaseOk, phasesOk, pitches, stretches, mainlobes}
 use Rattle.player.specs.Sound.{sidesAt, partialRow, blendCoeff, addSingle, addBlend, partialTerm, partialSum, movedPhases}
-use Rattle.player.specs.Passes.{EntriesFit, phasesAt, partialsOut}
-use Rattle.player.specs.Columns.{added}
-use Rattle.player.specs.Tuning.{PitchAt, Tuned}
+use Rattle.player.specs.inner.Passes.{EntriesFit, phasesAt, partialsOut}
+use Rattle.player.specs.inner.Columns.{added}
+use Rattle.player.specs.inner.Tuning.{PitchAt, Tuned}
 use Rattle.player.specs.declared.constants.Constants.{Constants}
 use Rattle.player.specs.declared.pitch.kept.Pitch.{Pitch}
 use Rattle.player.specs.declared.tuning.Tuning.{Tuning}

@@ -2,17 +2,16 @@
 use mathlib.Core.Path.{_≡_, refl, sym, ap, _∙_, subst}
 use mathlib.Core.Logic.{_⊎_, inl, inr}
 use mathlib.Core.List.{List}
-use mathlib.Core.Bool.{Bool, true, false, _&&_}
+use mathlib.Core.Bool.{false}
 use Prim.Native.Nat.{ℕ, _+_, _≤_, _<_}
 use native.Mathlib.Nat.{le-trans, le-of-eq, le-of-lt, mul-comm, mul-one, div-le-of-le-mul, eq-or-lt-of-le}
 use native.Mathlib.Omega.{arith}
-use lib.Dec.{T, eqb, eqb→eq, lit≤, lit<}
-use lib.IntN.{ℤ, pos, negsuc, _-ℤ_}
+use lib.Dec.{T, lit≤, lit<}
+use lib.IntN.{pos}
 use lib.ListN.{length, getD, set}
 use lib.Seq.{getD-set-same, getD-set-other}
-use lib.Ieee.{Float, nan, inf, fin, binary32, round, ofInt, toUnsigned, inUnsigned, fits, sub}
+use lib.Ieee.{Float, nan, fin, binary32, round, ofInt, toUnsigned, inUnsigned, fits, sub}
 use lib.Ieee.Back.{unsigned-back}
-use lib.Ieee.Fits.{and-l, and-r}
 use lib.Ieee.Positive.{num, den}
 use Rattle.float.specs.Range.{Within}
 use Rattle.float.proofs.Within.{mul-within}
@@ -21,9 +20,9 @@ use Rattle.float.proofs.Fraction.{whole-is, widen}
 use Rattle.float.proofs.Ints.{abs-in-float}
 use Rattle.voice.specs.Lists.{Filled}
 use Rattle.player.specs.Phase.{Phase, AllPhases}
-use Rattle.wave_table.specs.Wave.{quarterOf, waveOf, Waves}
+use Rattle.wave_table.specs.Wave.{Waves}
 use Rattle.filters.specs.Wave.{placeOf, cellOf, restOf, sineOf}
-use Rattle.player.specs.Sines.{cellFloat, indexOf, startOf, riseOf, lineAt, Cell, AllCells}
+use Rattle.player.specs.inner.Sines.{cellFloat, indexOf, startOf, riseOf, lineAt, Cell, AllCells}
 use Rattle.wave_table.proofs.Alike.{rise-exact}
 use Rattle.filters.proofs.SineLaws.{cell-lt}
 

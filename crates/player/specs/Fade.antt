@@ -1,4 +1,5 @@
--- How much of a partial is audible as its frequency nears Nyquist: all of it below the guard band, none from Nyquist on, in between a straight line.
+-- How much of a partial is audible as its frequency nears Nyquist: all of it below the guard band, none from Nyquist on, in between a
+-- straight line.
 use mathlib.Core.Bool.{cond}
 use lib.Ieee.{Float, le}
 use Rattle.float.specs.F32.{_⊖_, _⊗_, _⊘_, nearest}

@@ -1,11 +1,8 @@
-pub mod Sines
 pub mod Phase
 pub mod Share
 pub mod Fade
 pub mod Bracket
 pub mod Sound
-pub mod Columns
 pub mod Block
-pub mod Passes
 pub mod Play
-pub mod Tuning
+pub mod inner

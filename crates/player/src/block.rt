@@ -1,10 +1,11 @@
-// A block: channel after channel, each from the state that the block starts from. Channel 0 comes last, in the lent state itself: its end is kept.
+// A block: channel after channel, each from the state that the block starts from. Channel 0 comes last, in the lent state itself: its end
+// is kept.
 ghost use mathlib.Core.Path.{_≡_};
 ghost use Prim.Native.Nat.{_≤_, _*_};
 ghost use lib.ListN.{length};
 ghost use Rattle.voice.specs.Input.{call, frequencyAt, gainsAt};
 ghost use Rattle.voice.specs.Voice.{voiceOf, stateOf};
-ghost use Rattle.player.specs.Passes.{VoiceFits, CallFits, ChannelPlayed, BlockPlayed};
+ghost use Rattle.player.specs.inner.Passes.{VoiceFits, CallFits, ChannelPlayed, BlockPlayed};
 use crate::channel::channel_of;
 use crate::input::part_of;
 use filters::Rng;
@@ -37,7 +38,8 @@ fn channel_at(
     requires { ⌜ VoiceFits set (now lists) (now phases)
         × CallFits (call b (now freq) (now g0) (now g1) (now g2) (now g3)) × (length (now out) ≡ b .samples) ⌝ }
     ensures { λ r. ⌜ ChannelPlayed
-        (voiceOf set (now (lists .entry)) (now (partials .entry)) (now (noise .entry)) (stateOf (now (phases .entry)) (now (memories .entry)) (start .rng)))
+        (voiceOf set (now (lists .entry)) (now (partials .entry)) (now (noise .entry)) (stateOf (now (phases .entry))
+        (now (memories .entry)) (start .rng)))
         (frequencyAt (call b (now (freq .entry)) (now (g0 .entry)) (now (g1 .entry)) (now (g2 .entry)) (now (g3 .entry))) (start .ch))
         (gainsAt (call b (now (freq .entry)) (now (g0 .entry)) (now (g1 .entry)) (now (g2 .entry)) (now (g3 .entry))) (start .ch))
         (b .samples) r (now (phases .exit)) (now (memories .exit)) (now (out .exit)) ⌝ }
@@ -48,7 +50,21 @@ fn channel_at(
     let p2 = part_of(b.g2, g2, b.samples, start.ch);
     let p3 = part_of(b.g3, g3, b.samples, start.ch);
     let rng = start.rng;
-    channel_of(set, lists, partials, noise, phases, memories, rng, f, p0, p1, p2, p3, out)
+    channel_of(
+        set,
+        lists,
+        partials,
+        noise,
+        phases,
+        memories,
+        rng,
+        f,
+        p0,
+        p1,
+        p2,
+        p3,
+        out,
+    )
 }
 
 pub fn block_of(
@@ -70,7 +86,8 @@ pub fn block_of(
     requires { ⌜ VoiceFits set (now lists) (now phases) × CallFits (call b (now freq) (now g0) (now g1) (now g2) (now g3))
         × (b .samples ≤ 128) × (1 ≤ b .channels) × (b .channels ≤ 8) × (length (now out) ≡ b .channels * b .samples) ⌝ }
     ensures { λ r. ⌜ BlockPlayed
-        (voiceOf set (now (lists .entry)) (now (partials .entry)) (now (noise .entry)) (stateOf (now (phases .entry)) (now (memories .entry)) rng))
+        (voiceOf set (now (lists .entry)) (now (partials .entry)) (now (noise .entry)) (stateOf (now (phases .entry))
+        (now (memories .entry)) rng))
         (call b (now (freq .entry)) (now (g0 .entry)) (now (g1 .entry)) (now (g2 .entry)) (now (g3 .entry)))
         r (now (phases .exit)) (now (memories .exit)) (now (out .exit)) ⌝ }
 {

@@ -8,10 +8,10 @@ ghost use Rattle.float.specs.F32.{nearest};
 ghost use Rattle.voice.specs.Lists.{upTo};
 ghost use Rattle.voice.specs.Input.{frequencyOf, gainsOf};
 ghost use Rattle.voice.specs.Voice.{voiceOf, stateOf, phasesOk};
-ghost use Rattle.player.specs.Passes.{EntriesFit, VoiceFits, FrequenciesFit, partialsVoice, PartialsPlayed, ChannelPlayed};
-use crate::partials::one_by_one::partials_one_by_one;
+ghost use Rattle.player.specs.inner.Passes.{EntriesFit, VoiceFits, FrequenciesFit, partialsVoice, PartialsPlayed, ChannelPlayed};
 use crate::noise::pass::noise_pass;
 use crate::partials::in_columns::partials_in_columns;
+use crate::partials::one_by_one::partials_one_by_one;
 use filters::Rng;
 use voice::Setting;
 
@@ -72,7 +72,8 @@ pub fn channel_of(
 ) -> Rng
     requires { ⌜ VoiceFits set (now lists) (now phases) × FrequenciesFit (now freq) ⌝ }
     ensures { λ r. ⌜ ChannelPlayed
-        (voiceOf set (now (lists .entry)) (now (partials .entry)) (now (noise .entry)) (stateOf (now (phases .entry)) (now (memories .entry)) rng))
+        (voiceOf set (now (lists .entry)) (now (partials .entry)) (now (noise .entry)) (stateOf (now (phases .entry))
+        (now (memories .entry)) rng))
         (frequencyOf (now (freq .entry))) (gainsOf (now (g0 .entry)) (now (g1 .entry)) (now (g2 .entry)) (now (g3 .entry)))
         (length (now (out .entry))) r (now (phases .exit)) (now (memories .exit)) (now (out .exit)) ⌝ }
 {

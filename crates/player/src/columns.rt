@@ -1,5 +1,5 @@
-// Columns of floats: 32 places, of which the first n are in use. One loop over a column does one thing, so that the processor does several places at once.
-// A column that is written is taken as a slice: then the proof knows how long it is.
+// Columns of floats: 32 places, of which the first n are in use. One loop over a column does one thing, so that the processor does
+// several places at once. A column that is written is taken as a slice: then the proof knows how long it is.
 ghost use mathlib.Core.Path.{_≡_};
 ghost use mathlib.Core.Bool.{_&&_};
 ghost use Prim.Native.Nat.{_≤_};

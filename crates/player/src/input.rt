@@ -1,5 +1,5 @@
-// What a channel reads of the inputs: each is resolved once to the part of its slice that the channel reads, or to the empty part where it is
-// unconnected. What is read past the end of a part is the input's default, so nothing below asks how long a part is.
+// What a channel reads of the inputs: each is resolved once to the part of its slice that the channel reads, or to the empty part where
+// it is unconnected. What is read past the end of a part is the input's default, so nothing below asks how long a part is.
 ghost use mathlib.Core.Path.{_≡_};
 ghost use mathlib.Core.Bool.{true, false};
 ghost use Prim.Native.Nat.{_<_, _%_};

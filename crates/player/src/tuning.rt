@@ -12,18 +12,18 @@ ghost use Rattle.voice.specs.Lists.{Filled, FilledRows, every};
 ghost use Rattle.player.specs.Phase.{partialFreq, stepOf};
 ghost use Rattle.player.specs.Fade.{nyquistFade};
 ghost use Rattle.player.specs.Bracket.{SidesIn};
-ghost use Rattle.player.specs.Columns.{LiveIn};
+ghost use Rattle.player.specs.inner.Columns.{LiveIn};
 ghost use Rattle.voice.specs.Voice.{pitchOk, stretchOk};
 ghost use Rattle.player.specs.Sound.{partialRow};
-ghost use Rattle.player.specs.Tuning.{Tuned, NoiseTuned};
+ghost use Rattle.player.specs.inner.Tuning.{Tuned, NoiseTuned};
+use crate::columns::all_up_to;
+use crate::constants::Constants;
+use crate::noise::sum::noise_rows;
+use crate::partials::fade::nyquist_fade;
+use crate::partials::phase::partial_freq;
 use crate::pitch::bracket::Sides;
 use crate::pitch::bracket::sides_at;
 use crate::pitch::bracket::value_between;
-use crate::columns::all_up_to;
-use crate::partials::fade::nyquist_fade;
-use crate::constants::Constants;
-use crate::noise::sum::noise_rows;
-use crate::partials::phase::partial_freq;
 use crate::pitch::kept::pitch_at;
 
 pub struct Tuning {
@@ -136,10 +136,13 @@ pub fn tune(
     mainlobe_gain: &[f32; 16],
     partials: &[f32; 2048],
 ) -> Tuning
-    requires { ⌜ (1 ≤ count) × (count ≤ 16) × (every (λ i. pitchOk (getD (now «f0_hz») i nan)) count ≡ true) × (every (λ i. stretchOk (getD (now stretch) i nan)) count ≡ true) × Within 20000 1 f0 ⌝ }
+    requires { ⌜ (1 ≤ count) × (count ≤ 16) × (every (λ i. pitchOk (getD (now «f0_hz») i nan)) count ≡ true) ×
+        (every (λ i. stretchOk (getD (now stretch) i nan)) count ≡ true) × Within 20000 1 f0 ⌝ }
     requires { ⌜ (x .m ≤ 32) × (x .k ≤ 4) × Within 1 4096 (x .inv) ⌝ }
-    requires { ⌜ (eq f0 (t .f0) ≡ true → Tuned x count (now «f0_hz») (now stretch) (now «mainlobe_gain») (now partials) f0 (now incs) (now fades) (now rows) t) ⌝ }
-    ensures { λ r. ⌜ Tuned x count (now («f0_hz» .entry)) (now (stretch .entry)) (now («mainlobe_gain» .entry)) (now (partials .entry)) f0 (now (incs .exit)) (now (fades .exit)) (now (rows .exit)) r ⌝ }
+    requires { ⌜ (eq f0 (t .f0) ≡ true → Tuned x count (now «f0_hz») (now stretch) (now «mainlobe_gain») (now partials) f0 (now incs)
+        (now fades) (now rows) t) ⌝ }
+    ensures { λ r. ⌜ Tuned x count (now («f0_hz» .entry)) (now (stretch .entry)) (now («mainlobe_gain» .entry)) (now (partials .entry)) f0
+        (now (incs .exit)) (now (fades .exit)) (now (rows .exit)) r ⌝ }
 {
     if f0 == t.f0 {
         return t;
@@ -171,8 +174,10 @@ pub fn tune_noise(
 ) -> NoiseTuning
     requires { ⌜ (1 ≤ count) × (count ≤ 16) × (every (λ i. pitchOk (getD (now «f0_hz») i nan)) count ≡ true) × Within 20000 1 f0 ⌝ }
     requires { ⌜ (x .k ≤ 4) × («live_count» ≤ 16) × LiveIn (now live) «live_count» ⌝ }
-    requires { ⌜ (eq f0 (was .f0) ≡ true → NoiseTuned x count «live_count» (now «f0_hz») (now «noise_gain») (now noise) (now live) f0 (now rows) was) ⌝ }
-    ensures { λ r. ⌜ NoiseTuned x count «live_count» (now («f0_hz» .entry)) (now («noise_gain» .entry)) (now (noise .entry)) (now (live .entry)) f0 (now (rows .exit)) r ⌝ }
+    requires { ⌜ (eq f0 (was .f0) ≡ true → NoiseTuned x count «live_count» (now «f0_hz») (now «noise_gain») (now noise) (now live) f0
+        (now rows) was) ⌝ }
+    ensures { λ r. ⌜ NoiseTuned x count «live_count» (now («f0_hz» .entry)) (now («noise_gain» .entry)) (now (noise .entry))
+        (now (live .entry)) f0 (now (rows .exit)) r ⌝ }
 {
     if f0 == was.f0 {
         return was;

@@ -7,7 +7,7 @@ pub mod play_in;
 pub mod voices;
 
 pub use answer::Answer;
-pub use voices::MadeAnswer;
-pub use voices::PlayedAnswer;
 pub use images::DeskAnswer;
 pub use images::Place;
+pub use voices::MadeAnswer;
+pub use voices::PlayedAnswer;

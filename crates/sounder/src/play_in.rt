@@ -17,7 +17,8 @@ pub extern "C" fn sounder_play_in(
     g3: &[f32],
     out: &mut [f32],
 ) -> u32
-    ensures { λ r. ⌜ PlaysIn (now (voice .entry)) (call shape (now (freq .entry)) (now (g0 .entry)) (now (g1 .entry)) (now (g2 .entry)) (now (g3 .entry)))
+    ensures { λ r. ⌜ PlaysIn (now (voice .entry)) (call shape (now (freq .entry)) (now (g0 .entry)) (now (g1 .entry)) (now (g2 .entry))
+        (now (g3 .entry)))
         (now (out .entry)) r (now (voice .exit)) (now (out .exit)) ⌝ }
 {
     let set = voice.set;

@@ -119,7 +119,8 @@ pub extern "C" fn sounder_play(
     g3: &[f32],
     out: &mut [f32],
 ) -> PlayedAnswer
-    ensures { λ r. ⌜ PlaysAnswer voice (call shape (now (freq .entry)) (now (g0 .entry)) (now (g1 .entry)) (now (g2 .entry)) (now (g3 .entry)))
+    ensures { λ r. ⌜ PlaysAnswer voice (call shape (now (freq .entry)) (now (g0 .entry)) (now (g1 .entry)) (now (g2 .entry))
+        (now (g3 .entry)))
         (now (out .entry)) r (now (out .exit)) ⌝ }
 {
     let p = play(voice, shape, freq, g0, g1, g2, g3, out);

@@ -1,7 +1,7 @@
 -- Laws of the entry with an index, for the walk to it. Assumes nothing.
 use Prim.Native.Nat.{ℕ, suc, _+_, _-_, _<_}
 use mathlib.Core.Path.{_≡_, refl, ap, sym, _∙_}
-use mathlib.Core.List.{List, [], _∷_}
+use mathlib.Core.List.{List, []}
 use mathlib.Core.Option.{some, none}
 use native.Mathlib.Omega.{arith}
 use Rattle.wire.specs.Parse.{Parsed, ok, standing}

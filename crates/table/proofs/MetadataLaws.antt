@@ -1,7 +1,7 @@
 -- Laws of the pairs of an entry, for the loops over them. Assumes nothing.
 use Prim.Native.Nat.{ℕ, _+_, _-_, _<_}
 use mathlib.Core.Path.{_≡_, refl, ap, sym, _∙_}
-use mathlib.Core.List.{List, [], _∷_}
+use mathlib.Core.List.{List, _∷_}
 use mathlib.Core.Bool.{true, false}
 use mathlib.Core.Option.{some}
 use native.Mathlib.Omega.{arith}

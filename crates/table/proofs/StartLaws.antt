@@ -1,14 +1,12 @@
 -- Where the entries start. Assumes nothing.
 use Prim.Native.Nat.{ℕ, _+_}
-use mathlib.Core.Path.{_≡_, refl, ap, sym, _∙_}
-use mathlib.Core.List.{List, []}
-use mathlib.Core.Bool.{Bool, true, false}
+use mathlib.Core.Path.{_≡_, refl}
+use mathlib.Core.List.{List}
 use lib.ListN.{length}
 use lib.Dec.{leb}
-use Rattle.wire.specs.Parse.{Refusal, refusal, Parsed, ok, refused, asked, then}
+use Rattle.wire.specs.Parse.{refusal, ok, asked}
 use Rattle.wire.proofs.Many.{went, asked-ok, many-length}
 use Rattle.table.proofs.SizeLaws.{header-end}
-use Rattle.table.specs.declared.start.Start.{Start}
 use Rattle.table.specs.Table.{CoeffTable}
 use Rattle.table.specs.Image.{Header, header, entry, entries}
 use Rattle.table.specs.Span.{consistent, ruled}

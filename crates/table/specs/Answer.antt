@@ -69,5 +69,6 @@ skips (ok ps end) = ok tt end
 skips (refused r) = refused r
 
 abbrev pub headerParsed : List ℕ → HeaderRead → Parsed Header
-headerParsed s (HeaderRead.Header h) = ok (record { version = h .version; name = part s (h .«name_at») (h .name); count = h .count }) (h .end)
+headerParsed s (HeaderRead.Header h) = ok (record { version = h .version; name = part s (h .«name_at») (h .name); count = h .count })
+    (h .end)
 headerParsed s (HeaderRead.Refused e) = refused (refusalOf e)

@@ -13,7 +13,8 @@ pub record Pair : Type 0 where
   pub key : List ℕ
   pub value : ℕ
 
--- one pitch: M partial frequencies, k channels, j noise bands; each channel's row of coefficients has M for the partials, then j for the bands
+-- one pitch: M partial frequencies, k channels, j noise bands; each channel's row of coefficients has M for the partials, then j for the
+-- bands
 pub record PitchEntry : Type 0 where
   pub f0Hz : ℕ
   pub stretch : ℕ

@@ -16,9 +16,9 @@ use console::file;
 use console::say;
 use console::words;
 use options::Options;
+use sounder::images::sounder_from_bytes;
 use sounder::voices::sounder_make;
 use sounder::voices::sounder_reseed;
-use sounder::images::sounder_from_bytes;
 
 fn usage(fd: i32) {
     say::text(

@@ -7,7 +7,6 @@ use Prim.Native.Nat.{ℕ, zero, suc, _+_, _*_, _%_, _≤_, _<_}
 use native.Mathlib.Numerals.{add-one}
 use native.Mathlib.Nat.{add-zero, add-suc, suc-add, zero-add, suc-mul, one-mul, mul-le-mul-right, mod-lt, eq-or-lt-of-le}
 use native.Mathlib.Omega.{arith}
-use lib.Ieee.{Float, nan}
 use lib.ListN.{length, take, drop, getD, set, length-append, drop-of-length-le, List·getD-append, take-append-drop}
 use lib.Seq.{split-at, length-take-le, drop-cons, set-at, take-at, drop-at, drop-drop, getD-at, ext-getD, drop-append-le}
 use Rattle.voice.specs.Lists.{mapTo, upTo, steps, joinTo, every}

@@ -1,11 +1,10 @@
 -- What an answer yes to a question says.
-use mathlib.Core.Path.{_≡_, refl, sym, _∙_}
+use mathlib.Core.Path.{_≡_, refl}
 use mathlib.Core.Bool.{Bool, true, false, _&&_}
 use Prim.Native.Nat.{ℕ, zero, suc, _*_, _≤_}
 use native.Mathlib.Omega.{arith}
 use borrow.Author.Tests.{leb-true, eqb-true}
 use lib.Dec.{leb, eqb}
-use lib.ListN.{length}
 use lib.Ieee.{Float}
 use Rattle.voice.specs.Input.{Call, inputOk, inputsOf, inputsOk, frequenciesOk}
 use Rattle.voice.specs.Voice.{countsOk, entriesOk, rateOk, liveOk, phasesOk, rulesOf, keepsRules}

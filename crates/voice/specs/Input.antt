@@ -22,7 +22,8 @@ pub record Call : Type 0 where
 abbrev pub call : Shape → List Float → List Float → List Float → List Float → List Float → Call
 call b freq g0 g1 g2 g3 = record { shape = b; freq = freq; g0 = g0; g1 = g1; g2 = g2; g3 = g3 }
 
--- the part of an input of k channels that output channel ch of n samples reads: input channel ch modulo k, or nothing where it is unconnected
+-- the part of an input of k channels that output channel ch of n samples reads: input channel ch modulo k, or nothing where it is
+-- unconnected
 unfoldable pub partOf : ℕ → List Float → ℕ → ℕ → List Float
 partOf k s n ch = cond (eqb k 0) [] (take n (drop ((ch % k) * n) s))
 
@@ -40,7 +41,8 @@ frequencyAt c ch = frequencyOf (partOf (c .shape .freq) (c .freq) (c .shape .sam
 abbrev pub gainsAt : Call → ℕ → ℕ → List Float
 gainsAt c ch =
     let n = c .shape .samples in
-    gainsOf (partOf (c .shape .g0) (c .g0) n ch) (partOf (c .shape .g1) (c .g1) n ch) (partOf (c .shape .g2) (c .g2) n ch) (partOf (c .shape .g3) (c .g3) n ch)
+    gainsOf (partOf (c .shape .g0) (c .g0) n ch) (partOf (c .shape .g1) (c .g1) n ch) (partOf (c .shape .g2) (c .g2) n ch)
+    (partOf (c .shape .g3) (c .g3) n ch)
 
 -- question 15 of one input: is it unconnected, or 1 to 8 channels of the block's length, its slice exactly that long?
 abbrev pub inputOk : ℕ → ℕ → ℕ → Bool
@@ -50,7 +52,8 @@ inputOk k n len = eqb k 0 || (leb k 8 && eqb (k * n) len)
 abbrev pub inputsOf : Shape → ℕ → ℕ → ℕ → ℕ → ℕ → Bool
 inputsOf b f l0 l1 l2 l3 =
     inputOk (b .freq) (b .samples) f
-    && (inputOk (b .g0) (b .samples) l0 && (inputOk (b .g1) (b .samples) l1 && (inputOk (b .g2) (b .samples) l2 && inputOk (b .g3) (b .samples) l3)))
+    && (inputOk (b .g0) (b .samples) l0 && (inputOk (b .g1) (b .samples) l1 && (inputOk (b .g2) (b .samples) l2 && inputOk (b .g3)
+    (b .samples) l3)))
 
 abbrev pub inputsOk : Call → Bool
 inputsOk c = inputsOf (c .shape) (length (c .freq)) (length (c .g0)) (length (c .g1)) (length (c .g2)) (length (c .g3))

@@ -91,7 +91,8 @@ liveOk s = every (λ i. ltb (getD (s .live) i 0) (s .j)) (s .«live_count») && 
 unfoldable pub phasesOk : List Float → ℕ → Bool
 phasesOk ps m = every (λ i. phaseOk (getD ps i nan)) m
 
--- question 13, of what of a voice it looks at: its numbers, its short lists and its phases. (The sample rate is 8,000 to 192,000 by `rateOk`.)
+-- question 13, of what of a voice it looks at: its numbers, its short lists and its phases. (The sample rate is 8,000 to 192,000 by
+-- `rateOk`.)
 unfoldable pub rulesOf : Setting → List Float → List Float → Bool
 rulesOf s lists phases =
     countsOk s && (entriesOk lists (s .count) && (rateOk (s .«sample_rate») && (liveOk s && phasesOk phases (s .m))))

@@ -4,9 +4,13 @@ ghost use Rattle.voice.specs.Voice.{listAt};
 
 // Which is which. The bands' coefficients, five a band, take the place of lists 4 to 8.
 pub const PITCHES: usize = 0;
+
 pub const STRETCHES: usize = 1;
+
 pub const MAINLOBE_GAINS: usize = 2;
+
 pub const NOISE_GAINS: usize = 3;
+
 pub const COMPENSATIONS: usize = 9;
 
 // List n by itself; where there is none, no number in any place.

@@ -98,7 +98,8 @@ fn inputs_ok(
     both(f, both(a0, both(a1, both(a2, a3))))
 }
 
-// The first of questions 13 to 16 that is answered no, or 0: of a voice's numbers, short lists and phases, a call, and the length of its output.
+// The first of questions 13 to 16 that is answered no, or 0: of a voice's numbers, short lists and phases, a call, and the length of its
+// output.
 pub fn play_question<'a>(
     set: Setting,
     lists: &'a [f32; 160],

@@ -27,7 +27,8 @@ pub struct Setting {
 #[repr(C)]
 pub struct Voice {
     pub set: Setting,
-    pub lists: [f32; 160], // 16 pitches, ascending; 16 stretches, mainlobe gains and noise gains; 16 bands of five coefficients; 16 compensations
+    // 16 pitches, ascending; 16 stretches, mainlobe gains and noise gains; 16 bands of five coefficients; 16 compensations
+    pub lists: [f32; 160],
     pub partials: [f32; 2048], // entry × 128 + channel × 32 + partial
     pub noise: [f32; 1024], // entry × 64 + channel × 16 + band
     pub state: State,

@@ -1,4 +1,5 @@
-// T(0) to T(256), a quarter of the wave in whole numbers. A use of the constant copies all of it, so a caller makes the table once and lends it.
+// T(0) to T(256), a quarter of the wave in whole numbers. A use of the constant copies all of it, so a caller makes the table once and
+// lends it.
 ghost use Rattle.wave_table.specs.Wave.{Table};
 
 const QUARTER: [u32; 257] = [

@@ -1,4 +1,5 @@
--- A reader: the image, and the position that it has come to. A field that was read moves it past the field; a refusal leaves it where it was.
+-- A reader: the image, and the position that it has come to. A field that was read moves it past the field; a refusal leaves it where it
+-- was.
 use Prim.Native.Nat.{ℕ}
 use mathlib.Core.Path.{_≡_}
 use denote.Ref.{now}
@@ -16,4 +17,5 @@ movedTo r n = record { buf = r .buf; pos = n }
 
 -- a field was asked of the reader: the answer is that at its position, and the reader is now at the position after it
 abbrev pub Reads : {A : Type 0} → Parser A → Parsed A → Reader → Reader → Type 0
-Reads p answer before next = (answer ≡ p (now (before .buf)) (before .pos)) × (next ≡ movedTo before (after (p (now (before .buf)) (before .pos)) (before .pos)))
+Reads p answer before next = (answer ≡ p (now (before .buf)) (before .pos)) × (next ≡ movedTo before (after (p (now (before .buf))
+    (before .pos)) (before .pos)))

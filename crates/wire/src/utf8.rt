@@ -82,7 +82,8 @@ fn next_byte(t: Rest, b: u8) -> Follow
 // The bytes from `from` up to `to`, of which t must follow first: what must follow after them.
 fn walk(s: &[u8], from: usize, to: usize, t: Rest) -> Follow
     requires { ⌜ (from ≤ to) × (to ≤ length (now s)) ⌝ }
-    ensures { λ r. ⌜ octets (drop from (now (s .entry))) (ranges t) ≡ onto (followNext r) (λ next. octets (drop to (now (s .entry))) next) ⌝ }
+    ensures { λ r. ⌜ octets (drop from (now (s .entry))) (ranges t) ≡ onto (followNext r) (λ next. octets (drop to (now (s .entry))) next)
+        ⌝ }
 {
     let mut t = t;
     let mut i = from;
@@ -128,7 +129,8 @@ fn highest(s: &[u8], from: usize) -> u8
 // Where the bytes below 0x80 end that start at `from`, 64 at a time: each is a character of its own.
 fn skip(s: &[u8], from: usize) -> usize
     requires { ⌜ from ≤ length (now s) ⌝ }
-    ensures { λ r. ⌜ (from ≤ r) × (r ≤ length (now (s .entry))) × (octets (drop from (now (s .entry))) [] ≡ octets (drop r (now (s .entry))) []) ⌝ }
+    ensures { λ r. ⌜ (from ≤ r) × (r ≤ length (now (s .entry))) × (octets (drop from (now (s .entry))) [] ≡ octets
+        (drop r (now (s .entry))) []) ⌝ }
 {
     let mut i = from;
     while 64 <= s.len() - i {
@@ -143,7 +145,8 @@ fn skip(s: &[u8], from: usize) -> usize
 // Where `walk` has to start: most names are bytes below 0x80 alone, and they are passed over where no character is begun.
 fn start(s: &[u8], from: usize, t: Rest) -> usize
     requires { ⌜ from ≤ length (now s) ⌝ }
-    ensures { λ r. ⌜ (from ≤ r) × (r ≤ length (now (s .entry))) × (octets (drop from (now (s .entry))) (ranges t) ≡ octets (drop r (now (s .entry))) (ranges t)) ⌝ }
+    ensures { λ r. ⌜ (from ≤ r) × (r ≤ length (now (s .entry))) × (octets (drop from (now (s .entry))) (ranges t) ≡ octets
+        (drop r (now (s .entry))) (ranges t)) ⌝ }
 {
     if t.left == 0 { skip(s, from) } else { from }
 }

@@ -4,7 +4,7 @@ ghost use Prim.Native.Nat.{_≤_, _<_, _+_, _*_};
 ghost use lib.ListN.{length, getD};
 ghost use lib.Ieee.{nan};
 ghost use Rattle.voice.specs.Lists.{Filled, FilledRows};
-ghost use Rattle.player.specs.Columns.{LiveIn, Memories, Coeffs, Ticked, scattered};
+ghost use Rattle.player.specs.inner.Columns.{LiveIn, Memories, Coeffs, Ticked, scattered};
 use voice::band_of;
 
 // The memories of the live bands, which lie two a band in 32 places.
@@ -32,15 +32,11 @@ pub fn gather_memories(
 }
 
 // Row q, after the q rows before it: their coefficient q, in the order b0, b1, b2, a1, a2.
-fn gather_row(
-    coeffs: &mut [f32; 160],
-    lists: &[f32; 160],
-    live: &[u8; 16],
-    q: usize,
-    n: usize,
-)
-    requires { ⌜ (q < 5) × (n ≤ 16) × LiveIn (now live) n × FilledRows (now coeffs) (λ q l. getD (now lists) (64 + getD (now live) l 0 * 5 + q) nan) q n ⌝ }
-    ensures { λ r. ⌜ FilledRows (now (coeffs .exit)) (λ q l. getD (now (lists .entry)) (64 + getD (now (live .entry)) l 0 * 5 + q) nan) (q + 1) n ⌝ }
+fn gather_row(coeffs: &mut [f32; 160], lists: &[f32; 160], live: &[u8; 16], q: usize, n: usize)
+    requires { ⌜ (q < 5) × (n ≤ 16) × LiveIn (now live) n × FilledRows (now coeffs) (λ q l. getD (now lists) (64 + getD (now live) l 0 * 5
+        + q) nan) q n ⌝ }
+    ensures { λ r. ⌜ FilledRows (now (coeffs .exit)) (λ q l. getD (now (lists .entry)) (64 + getD (now (live .entry)) l 0 * 5 + q) nan)
+        (q + 1) n ⌝ }
 {
     let places = &mut coeffs[..];
     let mut l = 0;
@@ -53,12 +49,7 @@ fn gather_row(
 }
 
 // Their coefficients, in five rows.
-pub fn gather_coeffs(
-    coeffs: &mut [f32; 160],
-    lists: &[f32; 160],
-    live: &[u8; 16],
-    n: usize,
-)
+pub fn gather_coeffs(coeffs: &mut [f32; 160], lists: &[f32; 160], live: &[u8; 16], n: usize)
     requires { ⌜ (n ≤ 16) × LiveIn (now live) n ⌝ }
     ensures { λ r. ⌜ Coeffs (now (coeffs .exit)) (now (lists .entry)) (now (live .entry)) n ⌝ }
 {
@@ -70,12 +61,7 @@ pub fn gather_coeffs(
 }
 
 // Their compensations.
-pub fn gather_makeup(
-    makeup: &mut [f32; 32],
-    compensation: &[f32; 16],
-    live: &[u8; 16],
-    n: usize,
-)
+pub fn gather_makeup(makeup: &mut [f32; 32], compensation: &[f32; 16], live: &[u8; 16], n: usize)
     requires { ⌜ (n ≤ 16) × LiveIn (now live) n ⌝ }
     ensures { λ r. ⌜ Filled (now (makeup .exit)) (λ l. getD (now (compensation .entry)) (getD (now (live .entry)) l 0) nan) n ⌝ }
 {
@@ -98,7 +84,8 @@ pub fn tick_bands(
     n: usize,
 )
     requires { ⌜ n ≤ 32 ⌝ }
-    ensures { λ r. ⌜ Ticked (now (ys .exit)) (now (z1 .exit)) (now (z2 .exit)) (now (z1 .entry)) (now (z2 .entry)) (now (coeffs .entry)) x n ⌝ }
+    ensures { λ r. ⌜ Ticked (now (ys .exit)) (now (z1 .exit)) (now (z2 .exit)) (now (z1 .entry)) (now (z2 .entry)) (now (coeffs .entry)) x
+        n ⌝ }
 {
     let s = &mut ys[..];
     let s1 = &mut z1[..];

@@ -9,12 +9,13 @@ ghost use Rattle.float.specs.Sqrt.{sqrt};
 ghost use Rattle.float.specs.F32.{_⊕_, _⊗_};
 ghost use Rattle.voice.specs.Lists.{Filled, FilledRows, steps};
 ghost use Rattle.player.specs.Bracket.{SidesIn};
-ghost use Rattle.player.specs.Columns.{LiveIn, singleTerm, blendTerm};
+ghost use Rattle.player.specs.inner.Columns.{LiveIn, singleTerm, blendTerm};
+ghost use Rattle.player.specs.inner.Terms.{noiseAdded};
 ghost use Rattle.filters.specs.Rng.{nextBipolar};
 ghost use Rattle.player.specs.Sound.{addNoiseSingle, addNoiseBlend, blendPower, noiseRow, noiseIn};
-use crate::pitch::bracket::Sides;
 use crate::columns::fill;
 use crate::columns::sum_of;
+use crate::pitch::bracket::Sides;
 use filters::Bipolar;
 use filters::Rng;
 use voice::band_of;
@@ -43,7 +44,8 @@ fn noise_row(
     q: usize,
     n: usize,
 )
-    requires { ⌜ SidesIn 16 s × (q < 4) × (n ≤ 16) × LiveIn (now live) n × FilledRows (now rows) (λ q l. noiseRow (now noise) s q (getD (now live) l 0)) q n ⌝ }
+    requires { ⌜ SidesIn 16 s × (q < 4) × (n ≤ 16) × LiveIn (now live) n × FilledRows (now rows) (λ q l. noiseRow (now noise) s q
+        (getD (now live) l 0)) q n ⌝ }
     ensures { λ r. ⌜ FilledRows (now (rows .exit)) (λ q l. noiseRow (now (noise .entry)) s q (getD (now (live .entry)) l 0)) (q + 1) n ⌝ }
 {
     let places = &mut rows[..];
@@ -88,7 +90,8 @@ fn single_terms<'a>(
     n: usize,
 )
     requires { ⌜ n ≤ 32 ⌝ }
-    ensures { λ r. ⌜ Filled (now (terms .exit)) (λ l. singleTerm (getD (now (rows .entry)) l nan) gain «noise_gain» (getD (now (makeup .entry)) l nan) (getD (now (ys .entry)) l nan)) n ⌝ }
+    ensures { λ r. ⌜ Filled (now (terms .exit)) (λ l. singleTerm (getD (now (rows .entry)) l nan) gain «noise_gain»
+        (getD (now (makeup .entry)) l nan) (getD (now (ys .entry)) l nan)) n ⌝ }
 {
     let s = &mut terms[..];
     let mut l = 0;
@@ -104,7 +107,8 @@ fn single_terms<'a>(
 // Channel q's squares, added to the powers.
 fn add_powers(powers: &mut [f32; 32], rows: &[f32; 128], gain: f32, q: usize, n: usize)
     requires { ⌜ (q < 4) × (n ≤ 32) ⌝ }
-    ensures { λ r. ⌜ Filled (now (powers .exit)) (λ l. getD (now (powers .entry)) l nan ⊕ (gain ⊗ getD (now (rows .entry)) (q * 32 + l) nan) ⊗ (gain ⊗ getD (now (rows .entry)) (q * 32 + l) nan)) n ⌝ }
+    ensures { λ r. ⌜ Filled (now (powers .exit)) (λ l. getD (now (powers .entry)) l nan ⊕ (gain ⊗ getD (now (rows .entry)) (q * 32 + l)
+        nan) ⊗ (gain ⊗ getD (now (rows .entry)) (q * 32 + l) nan)) n ⌝ }
 {
     let s = &mut powers[..];
     let mut l = 0;
@@ -125,7 +129,8 @@ fn blend_powers<'a>(
     n: usize,
 )
     requires { ⌜ (k ≤ 4) × (n ≤ 32) ⌝ }
-    ensures { λ r. ⌜ Filled (now (powers .exit)) (λ l. blendPower (λ q. getD (now (rows .entry)) (q * 32 + l) nan) (now (gains .entry)) k) n ⌝ }
+    ensures { λ r. ⌜ Filled (now (powers .exit)) (λ l. blendPower (λ q. getD (now (rows .entry)) (q * 32 + l) nan) (now (gains .entry)) k)
+        n ⌝ }
 {
     fill(powers, n, 0.0);
     let mut q = 0;
@@ -155,7 +160,8 @@ fn blend_terms<'a>(
     n: usize,
 )
     requires { ⌜ n ≤ 32 ⌝ }
-    ensures { λ r. ⌜ Filled (now (terms .exit)) (λ l. blendTerm (getD (now (powers .entry)) l nan) (getD (now (terms .entry)) l nan) «noise_gain» (getD (now (makeup .entry)) l nan) (getD (now (ys .entry)) l nan)) n ⌝ }
+    ensures { λ r. ⌜ Filled (now (terms .exit)) (λ l. blendTerm (getD (now (powers .entry)) l nan) (getD (now (terms .entry)) l nan)
+        «noise_gain» (getD (now (makeup .entry)) l nan) (getD (now (ys .entry)) l nan)) n ⌝ }
 {
     let s = &mut terms[..];
     let mut l = 0;
@@ -183,7 +189,9 @@ pub fn noise_sum<'a>(
     n: usize,
 ) -> f32
     requires { ⌜ (n ≤ 16) × (k ≤ 4) ⌝ }
-    ensures { λ r. ⌜ r ≡ steps (λ l y. pick (eqb blend 0) (addNoiseSingle y (getD (now (rows .entry)) l nan) (getD (now (gains .entry)) 0 nan) «noise_gain» (getD (now (makeup .entry)) l nan) (getD (now (ys .entry)) l nan)) (addNoiseBlend y (blendPower (λ q. getD (now (rows .entry)) (q * 32 + l) nan) (now (gains .entry)) k) «noise_gain» (getD (now (makeup .entry)) l nan) (getD (now (ys .entry)) l nan))) y n ⌝ }
+    ensures { λ r. ⌜ r ≡ steps
+        (λ l y. noiseAdded blend k (now (rows .entry)) (now (gains .entry)) «noise_gain» (now (makeup .entry)) (now (ys .entry)) l y)
+        y n ⌝ }
 {
     if blend == 0 {
         single_terms(terms, rows, gains[0], noise_gain, makeup, ys, n);

@@ -1,12 +1,12 @@
-// The partials of a channel's samples. What a frequency decides is worked out once while it stays; the partials of a sample are worked out in
-// columns, several at a time. `terms`, `rests`, `freqs`, `sines` and `coeffs` are only worked in.
+// The partials of a channel's samples. What a frequency decides is worked out once while it stays; the partials of a sample are worked
+// out in columns, several at a time. `terms`, `rests`, `freqs`, `sines` and `coeffs` are only worked in.
 ghost use mathlib.Core.Path.{_≡_};
 ghost use mathlib.Core.Bool.{true};
 ghost use Prim.Native.Nat.{_≤_};
 ghost use lib.ListN.{length};
 ghost use Rattle.voice.specs.Input.{frequencyOf, gainsOf};
 ghost use Rattle.voice.specs.Voice.{phasesOk};
-ghost use Rattle.player.specs.Passes.{EntriesFit, FrequenciesFit, PartialsPlayed, partialsVoice};
+ghost use Rattle.player.specs.inner.Passes.{EntriesFit, FrequenciesFit, PartialsPlayed, partialsVoice};
 use crate::constants::constants_of;
 use crate::input::frequency_at;
 use crate::input::gains_at;

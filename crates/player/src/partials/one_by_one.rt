@@ -5,7 +5,7 @@ ghost use Prim.Native.Nat.{_≤_, _+_};
 ghost use lib.ListN.{length, getD};
 ghost use Rattle.voice.specs.Input.{frequencyOf, gainsOf};
 ghost use Rattle.voice.specs.Voice.{phasesOk};
-ghost use Rattle.player.specs.Passes.{EntriesFit, FrequenciesFit, PartialsPlayed, partialsVoice};
+ghost use Rattle.player.specs.inner.Passes.{EntriesFit, FrequenciesFit, PartialsPlayed, partialsVoice};
 ghost use lib.Dec.{eqb};
 ghost use lib.Ieee.{nan};
 ghost use Rattle.wire.specs.Parse.{pick};
@@ -17,12 +17,13 @@ ghost use Rattle.player.specs.Fade.{nyquistFade};
 ghost use Rattle.player.specs.Phase.{advanceOf, partialFreq, stepOf};
 ghost use Rattle.player.specs.Bracket.{SidesIn};
 ghost use Rattle.player.specs.Sound.{addSingle, addBlend, blendCoeff, partialRow};
+ghost use Rattle.player.specs.inner.Terms.{sampleAdded};
 use crate::constants::Constants;
 use crate::constants::constants_of;
 use crate::input::frequency_at;
 use crate::input::gains_for;
-use crate::partials::single::partials_single;
 use crate::partials::blend::partials_blend;
+use crate::partials::single::partials_single;
 use crate::pitch::kept::Pitch;
 use crate::pitch::kept::no_pitch;
 use crate::pitch::kept::pitch_kept;
@@ -44,8 +45,10 @@ fn sample_of<'a>(
 ) -> f32
     requires { ⌜ Table (now wave) × SidesIn 16 (p .s) × (v .k ≤ 4) × (v .m ≤ 32) × (phasesOk (now phases) (v .m) ≡ true) ⌝ }
     requires { ⌜ Within 20000 1 (p .f0) × Within 8 1 (p .stretch) × Within 1 4096 (v .inv) ⌝ }
-    ensures { λ r. ⌜ r ≡ steps (λ i y. pick (eqb (v .blend) 0) (addSingle y (partialRow (now (partials .entry)) (p .s) 0 i) (p .mainlobe) (nyquistFade (partialFreq (i + 1) (p .f0) (p .stretch)) (v .nyquist)) (getD (now (gains .entry)) 0 nan) (advanceOf (getD (now (phases .entry)) i nan) (stepOf (i + 1) (p .f0) (p .stretch) (v .inv)))) (addBlend y (blendCoeff (λ q. partialRow (now (partials .entry)) (p .s) q i) (now (gains .entry)) (v .k)) (p .mainlobe) (nyquistFade (partialFreq (i + 1) (p .f0) (p .stretch)) (v .nyquist)) (advanceOf (getD (now (phases .entry)) i nan) (stepOf (i + 1) (p .f0) (p .stretch) (v .inv))))) (nearest 0 1) (v .m) ⌝ }
-    ensures { λ r. ⌜ now (phases .exit) ≡ mapTo (λ i ph. advanceOf ph (stepOf (i + 1) (p .f0) (p .stretch) (v .inv))) 0 (v .m) (now (phases .entry)) ⌝ }
+    ensures { λ r. ⌜ r ≡ steps
+        (λ i y. sampleAdded v p (now (partials .entry)) (now (gains .entry)) (now (phases .entry)) i y) (nearest 0 1) (v .m) ⌝ }
+    ensures { λ r. ⌜ now (phases .exit) ≡ mapTo (λ i ph. advanceOf ph (stepOf (i + 1) (p .f0) (p .stretch) (v .inv))) 0 (v .m)
+        (now (phases .entry)) ⌝ }
 {
     if v.blend == 0 {
         let gain = gains[0];

@@ -8,13 +8,14 @@ ghost use Rattle.player.specs.Phase.{AllPhases};
 ghost use Rattle.voice.specs.Lists.{Filled};
 ghost use Rattle.wave_table.specs.Wave.{Waves};
 ghost use Rattle.filters.specs.Wave.{restOf, sineOf};
-ghost use Rattle.player.specs.Sines.{cellFloat, indexOf, startOf, riseOf, lineAt, AllCells};
+ghost use Rattle.player.specs.inner.Sines.{cellFloat, indexOf, startOf, riseOf, lineAt, AllCells};
 use crate::partials::floor::floor;
 
 // The cell of each phase, and what is left of its place.
 fn places(cells: &mut [f32], rests: &mut [f32], phases: &[f32], m: usize)
     requires { ⌜ (m ≤ length (now cells)) × (m ≤ length (now rests)) × (m ≤ length (now phases)) × AllPhases (now phases) m ⌝ }
-    ensures { λ r. ⌜ Filled (now (cells .exit)) (λ i. cellFloat (getD (now (phases .entry)) i nan)) m × AllCells (now (cells .exit)) m × Filled (now (rests .exit)) (λ i. restOf (getD (now (phases .entry)) i nan)) m ⌝ }
+    ensures { λ r. ⌜ Filled (now (cells .exit)) (λ i. cellFloat (getD (now (phases .entry)) i nan)) m × AllCells (now (cells .exit)) m ×
+        Filled (now (rests .exit)) (λ i. restOf (getD (now (phases .entry)) i nan)) m ⌝ }
 {
     let mut i = 0;
     while i < m {
@@ -34,8 +35,10 @@ fn lines<'a>(
     wave: &'a [f32; 1025],
     m: usize,
 )
-    requires { ⌜ Waves (now wave) × (m ≤ length (now starts)) × (m ≤ length (now rises)) × (m ≤ length (now cells)) × AllCells (now cells) m ⌝ }
-    ensures { λ r. ⌜ Filled (now (starts .exit)) (λ i. startOf (indexOf (getD (now (cells .entry)) i nan))) m × Filled (now (rises .exit)) (λ i. riseOf (indexOf (getD (now (cells .entry)) i nan))) m ⌝ }
+    requires { ⌜ Waves (now wave) × (m ≤ length (now starts)) × (m ≤ length (now rises)) × (m ≤ length (now cells)) × AllCells (now cells)
+        m ⌝ }
+    ensures { λ r. ⌜ Filled (now (starts .exit)) (λ i. startOf (indexOf (getD (now (cells .entry)) i nan))) m × Filled (now (rises .exit))
+        (λ i. riseOf (indexOf (getD (now (cells .entry)) i nan))) m ⌝ }
 {
     let mut i = 0;
     while i < m {
@@ -50,7 +53,8 @@ fn lines<'a>(
 // The value on each line. Its start is in the column that the value goes to.
 fn values<'a>(sines: &mut [f32], rests: &'a [f32], rises: &'a [f32], m: usize)
     requires { ⌜ (m ≤ length (now sines)) × (m ≤ length (now rests)) × (m ≤ length (now rises)) ⌝ }
-    ensures { λ r. ⌜ Filled (now (sines .exit)) (λ i. lineAt (getD (now (sines .entry)) i nan) (getD (now (rests .entry)) i nan) (getD (now (rises .entry)) i nan)) m ⌝ }
+    ensures { λ r. ⌜ Filled (now (sines .exit)) (λ i. lineAt (getD (now (sines .entry)) i nan) (getD (now (rests .entry)) i nan)
+        (getD (now (rises .entry)) i nan)) m ⌝ }
 {
     let mut i = 0;
     while i < m {

@@ -8,7 +8,8 @@ ghost use Rattle.wire.specs.Parse.{pick};
 ghost use Rattle.float.specs.F32.{_⊕_, _⊗_, nearest};
 ghost use Rattle.voice.specs.Lists.{Filled, steps};
 ghost use Rattle.player.specs.Sound.{blendCoeff};
-ghost use Rattle.player.specs.Columns.{audible, added};
+ghost use Rattle.player.specs.inner.Columns.{audible};
+ghost use Rattle.player.specs.inner.Terms.{partialAdded};
 use crate::columns::fill;
 use crate::columns::sum_of;
 
@@ -23,7 +24,8 @@ fn terms_single<'a>(
     m: usize,
 )
     requires { ⌜ m ≤ 32 ⌝ }
-    ensures { λ r. ⌜ Filled (now (terms .exit)) (λ i. audible (getD (now (rows .entry)) i nan) (getD (now (rows .entry)) i nan ⊗ mainlobe ⊗ getD (now (fades .entry)) i nan ⊗ gain ⊗ getD (now (sines .entry)) i nan)) m ⌝ }
+    ensures { λ r. ⌜ Filled (now (terms .exit)) (λ i. audible (getD (now (rows .entry)) i nan) (getD (now (rows .entry)) i nan ⊗ mainlobe
+        ⊗ getD (now (fades .entry)) i nan ⊗ gain ⊗ getD (now (sines .entry)) i nan)) m ⌝ }
 {
     let ts = &mut terms[..];
     let mut i = 0;
@@ -45,7 +47,8 @@ fn terms_blend<'a>(
     m: usize,
 )
     requires { ⌜ m ≤ 32 ⌝ }
-    ensures { λ r. ⌜ Filled (now (terms .exit)) (λ i. audible (getD (now (coeffs .entry)) i nan) (getD (now (coeffs .entry)) i nan ⊗ mainlobe ⊗ getD (now (fades .entry)) i nan ⊗ getD (now (sines .entry)) i nan)) m ⌝ }
+    ensures { λ r. ⌜ Filled (now (terms .exit)) (λ i. audible (getD (now (coeffs .entry)) i nan) (getD (now (coeffs .entry)) i nan ⊗
+        mainlobe ⊗ getD (now (fades .entry)) i nan ⊗ getD (now (sines .entry)) i nan)) m ⌝ }
 {
     let ts = &mut terms[..];
     let mut i = 0;
@@ -61,7 +64,8 @@ fn terms_blend<'a>(
 // One channel's share of every coefficient.
 fn add_row(coeffs: &mut [f32; 32], rows: &[f32; 128], q: usize, gain: f32, m: usize)
     requires { ⌜ (q < 4) × (m ≤ 32) ⌝ }
-    ensures { λ r. ⌜ Filled (now (coeffs .exit)) (λ i. getD (now (coeffs .entry)) i nan ⊕ gain ⊗ getD (now (rows .entry)) (q * 32 + i) nan) m ⌝ }
+    ensures { λ r. ⌜ Filled (now (coeffs .exit)) (λ i. getD (now (coeffs .entry)) i nan ⊕ gain ⊗ getD (now (rows .entry)) (q * 32 + i)
+        nan) m ⌝ }
 {
     let cs = &mut coeffs[..];
     let mut i = 0;
@@ -81,7 +85,8 @@ fn blend_coeffs<'a>(
     m: usize,
 )
     requires { ⌜ (k ≤ 4) × (m ≤ 32) ⌝ }
-    ensures { λ r. ⌜ Filled (now (coeffs .exit)) (λ i. blendCoeff (λ q. getD (now (rows .entry)) (q * 32 + i) nan) (now (gains .entry)) k) m ⌝ }
+    ensures { λ r. ⌜ Filled (now (coeffs .exit)) (λ i. blendCoeff (λ q. getD (now (rows .entry)) (q * 32 + i) nan) (now (gains .entry)) k)
+        m ⌝ }
 {
     fill(coeffs, m, 0.0);
     let mut q = 0;
@@ -105,7 +110,9 @@ pub fn partial_sum<'a>(
     m: usize,
 ) -> f32
     requires { ⌜ (k ≤ 4) × (m ≤ 32) ⌝ }
-    ensures { λ r. ⌜ r ≡ steps (λ i y. pick (eqb blend 0) (added y (getD (now (rows .entry)) i nan) (getD (now (rows .entry)) i nan ⊗ mainlobe ⊗ getD (now (fades .entry)) i nan ⊗ getD (now (gains .entry)) 0 nan ⊗ getD (now (sines .entry)) i nan)) (added y (blendCoeff (λ q. getD (now (rows .entry)) (q * 32 + i) nan) (now (gains .entry)) k) (blendCoeff (λ q. getD (now (rows .entry)) (q * 32 + i) nan) (now (gains .entry)) k ⊗ mainlobe ⊗ getD (now (fades .entry)) i nan ⊗ getD (now (sines .entry)) i nan))) (nearest 0 1) m ⌝ }
+    ensures { λ r. ⌜ r ≡ steps
+        (λ i y. partialAdded blend k (now (rows .entry)) mainlobe (now (fades .entry)) (now (gains .entry)) (now (sines .entry)) i y)
+        (nearest 0 1) m ⌝ }
 {
     if blend == 0 {
         terms_single(terms, rows, mainlobe, fades, gains[0], sines, m);

@@ -7,7 +7,7 @@ ghost use lib.Ieee.{nan, eq};
 ghost use Rattle.float.specs.Range.{Within};
 ghost use Rattle.voice.specs.Lists.{every};
 ghost use Rattle.voice.specs.Voice.{pitchOk, stretchOk};
-ghost use Rattle.player.specs.Tuning.{PitchAt};
+ghost use Rattle.player.specs.inner.Tuning.{PitchAt};
 ghost use Rattle.player.specs.Bracket.{bracketOf, sidesOf, SidesIn, between};
 use crate::pitch::bracket::Sides;
 use crate::pitch::bracket::sides_at;
@@ -28,8 +28,10 @@ pub fn pitch_at(
     count: usize,
     f0: f32,
 ) -> Pitch
-    requires { ⌜ (1 ≤ count) × (count ≤ 16) × (every (λ i. pitchOk (getD (now «f0_hz») i nan)) count ≡ true) × (every (λ i. stretchOk (getD (now stretch) i nan)) count ≡ true) × Within 20000 1 f0 ⌝ }
-    ensures { λ r. ⌜ (r .f0 ≡ f0) × (r .s ≡ sidesOf (bracketOf (now («f0_hz» .entry)) count f0)) × (r .stretch ≡ between (now (stretch .entry)) (r .s)) × (r .mainlobe ≡ between (now («mainlobe_gain» .entry)) (r .s)) ⌝ }
+    requires { ⌜ (1 ≤ count) × (count ≤ 16) × (every (λ i. pitchOk (getD (now «f0_hz») i nan)) count ≡ true) ×
+        (every (λ i. stretchOk (getD (now stretch) i nan)) count ≡ true) × Within 20000 1 f0 ⌝ }
+    ensures { λ r. ⌜ (r .f0 ≡ f0) × (r .s ≡ sidesOf (bracketOf (now («f0_hz» .entry)) count f0)) × (r .stretch ≡ between
+        (now (stretch .entry)) (r .s)) × (r .mainlobe ≡ between (now («mainlobe_gain» .entry)) (r .s)) ⌝ }
     ensures { λ r. ⌜ SidesIn 16 (r .s) × Within 8 1 (r .stretch) ⌝ }
 {
     let s = sides_at(f0_hz, count, f0);
@@ -66,7 +68,8 @@ pub fn pitch_kept(
     count: usize,
     f0: f32,
 ) -> Pitch
-    requires { ⌜ (1 ≤ count) × (count ≤ 16) × (every (λ i. pitchOk (getD (now «f0_hz») i nan)) count ≡ true) × (every (λ i. stretchOk (getD (now stretch) i nan)) count ≡ true) × Within 20000 1 f0 ⌝ }
+    requires { ⌜ (1 ≤ count) × (count ≤ 16) × (every (λ i. pitchOk (getD (now «f0_hz») i nan)) count ≡ true) ×
+        (every (λ i. stretchOk (getD (now stretch) i nan)) count ≡ true) × Within 20000 1 f0 ⌝ }
     requires { ⌜ (eq f0 (was .f0) ≡ true → PitchAt (now «f0_hz») (now stretch) (now «mainlobe_gain») count f0 was) ⌝ }
     ensures { λ r. ⌜ PitchAt (now («f0_hz» .entry)) (now (stretch .entry)) (now («mainlobe_gain» .entry)) count f0 r ⌝ }
 {

@@ -1,5 +1,5 @@
 -- `band_of` meets its contract.
-use mathlib.Core.Path.{_≡_, refl}
+use mathlib.Core.Path.{refl}
 use borrow.Author.Needs.{needs}
 use Rattle.filters.proofs.band.band_of.Statement.{statement}
 use Rattle.filters.proofs.band.band_of.Tie as tie

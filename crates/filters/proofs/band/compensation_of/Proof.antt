@@ -1,13 +1,8 @@
-use mathlib.Core.Path.{_≡_, refl}
+use mathlib.Core.Path.{refl}
 use lib.Ieee.{ofBits, round}
 use borrow.Author.Needs.{needs}
 use Rattle.filters.proofs.band.compensation_of.Statement.{statement}
 use Rattle.filters.proofs.band.compensation_of.Tie as tie
-use Rattle.filters.proofs.band.compensation_of.Reads as reads
-use Rattle.filters.proofs.band.compensation_of.Lts as lts
-use Rattle.filters.proofs.compensation.biquad_noise_power_gain.Reads as biquad-noise-power-gain-reads
-use Rattle.filters.proofs.compensation.noise_power_compensation.Reads as noise-power-compensation-reads
-use Rattle.filters.proofs.biquad.band_center.Reads as band-center-reads
 
 -- src/band.rt:24:40
 band-center-requires : tie.Need-band-center-requires

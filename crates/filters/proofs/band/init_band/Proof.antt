@@ -1,15 +1,10 @@
-use mathlib.Core.Path.{_≡_, refl, sym, subst}
-use mathlib.Core.Bool.{Bool, true}
+use mathlib.Core.Path.{refl, sym, subst}
 use lib.Dec.{T}
 use lib.Ieee.{ofBits, round}
 use Rattle.filters.specs.Band.{bandAt}
 use Rattle.filters.proofs.Tests.{rate-is}
-use borrow.Author.Needs.{needs}
 use Rattle.filters.proofs.band.init_band.Statement.{statement}
 use Rattle.filters.proofs.band.init_band.Tie as tie
-use Rattle.filters.proofs.band.init_band.Reads as reads
-use Rattle.filters.proofs.band.init_band.Lts as lts
-use Rattle.filters.proofs.band.band_of.Reads as band-of-reads
 
 -- src/band.rt:47:13
 band-of-requires : tie.Need-band-of-requires

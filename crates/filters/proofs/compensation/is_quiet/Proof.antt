@@ -1,6 +1,6 @@
 -- `is_quiet` meets its contract.
 use borrow.Author.Needs.{needs}
-use mathlib.Core.Path.{_≡_, sym, ap, _∙_}
+use mathlib.Core.Path.{sym, ap, _∙_}
 use mathlib.Core.Bool.{Bool, _&&_}
 use lib.Ieee.{ofBits, round}
 use Rattle.float.specs.F32.{_⊗_, nearest}

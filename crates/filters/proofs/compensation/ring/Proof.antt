@@ -1,6 +1,6 @@
 -- `ring` meets its contract.
 use borrow.Author.Needs.{needs}
-use mathlib.Core.Path.{_≡_, sym, _∙_}
+use mathlib.Core.Path.{sym, _∙_}
 use Rattle.filters.proofs.compensation.ring.Statement.{statement}
 use Rattle.filters.proofs.compensation.ring.Tie as tie
 

@@ -12,8 +12,6 @@ use mir.Val.{SFits, toZ, ofZ}
 use mir.ValLaws.{toZ-pos, toZ-ofZ}
 use Rattle.filters.proofs.rng.signed.Statement.{statement}
 use Rattle.filters.proofs.rng.signed.Tie as tie
-use Rattle.filters.proofs.rng.signed.Reads as reads
-use Rattle.filters.proofs.rng.signed.Lts as lts
 
 -- -1 - k
 below : (k : ℕ) → negsuc 0 -ℤ pos k ≡ negsuc k

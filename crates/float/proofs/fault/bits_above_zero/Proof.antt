@@ -1,5 +1,5 @@
 -- `fault::bits_above_zero` meets its contract. Assumes nothing.
-use mathlib.Core.Path.{_≡_, refl, sym, ap}
+use mathlib.Core.Path.{sym, ap}
 use mathlib.Core.Bool.{Bool, cond}
 use lib.Dec.{T, lit<}
 use lib.Ieee.{binary32, fits, toBits, ofBits}

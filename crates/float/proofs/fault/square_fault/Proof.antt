@@ -1,6 +1,6 @@
 -- `fault::square_fault` meets its contract. Assumes nothing.
 use mathlib.Core.Path.{_≡_, refl}
-use Prim.Native.Nat.{ℕ, _+_, _-_, _*_, _/_, _%_, _^_, _≤_, _<_}
+use Prim.Native.Nat.{ℕ, _+_, _-_, _*_, _/_, _^_, _≤_, _<_}
 use native.Mathlib.Omega.{arith}
 use Rattle.float.proofs.RootLaws.{quartered}
 use Rattle.float.proofs.Tested.{beyond, square-small, faultless}

@@ -1,5 +1,5 @@
 -- `root::normal_root` meets its contract. Assumes nothing.
-use mathlib.Core.Path.{_≡_, sym, ap, _∙_, subst}
+use mathlib.Core.Path.{sym, ap, _∙_, subst}
 use Prim.Native.Nat.{ℕ, _+_, _*_, _/_, _≤_, _<_}
 use lib.Dec.{T}
 use lib.Ieee.{binary32, fits, toBits, ofBits}

@@ -1,5 +1,5 @@
 -- `roots::guess` is safe, and leaves what is not normal. Assumes nothing.
-use mathlib.Core.Path.{_≡_, sym, _∙_, subst}
+use mathlib.Core.Path.{sym, _∙_, subst}
 use lib.Dec.{T}
 use lib.Ieee.{binary32, fits, ofBits}
 use Rattle.float.specs.Sqrt.{normal}

@@ -1,7 +1,7 @@
 -- `whole::moved` meets its contract, whatever `near` is. Assumes nothing.
-use mathlib.Core.Path.{_≡_, sym, subst}
+use mathlib.Core.Path.{sym, subst}
 use Prim.Native.Nat.{ℕ, zero, suc, _+_, _-_, _*_, _^_, _<_, _≤_}
-use native.Mathlib.Nat.{mul-le-mul, lt-of-le-of-lt, lt-of-lt-of-le}
+use native.Mathlib.Nat.{mul-le-mul, lt-of-le-of-lt}
 use native.Mathlib.Omega.{arith}
 use lib.Dec.{lit<}
 use Rattle.float.proofs.RootLaws.{root-lt, square-next, nearest-is}

@@ -3,7 +3,7 @@ use Prim.Native.Nat.{ℕ, _≤_, _-_}
 use native.Mathlib.Omega.{arith}
 use lib.ListN.{length}
 use mathlib.Core.List.{List}
-use Rattle.making.specs.Views.{viewed}
+use Rattle.making.specs.inner.Views.{viewed}
 use Rattle.table.specs.Table.{hasChannel}
 use Rattle.making.specs.Making.{any}
 use Rattle.making.proofs.ViewLaws.{rest, any-go, any-yes, any-end}

@@ -1,10 +1,10 @@
 use mathlib.Core.Path.{_≡_, refl, sym, ap, _∙_}
 use native.Mathlib.Omega.{arith}
 use lib.ListN.{length}
-use Rattle.making.specs.Views.{viewed}
+use Rattle.making.specs.inner.Views.{viewed}
 use borrow.Author.Tests.{not-true, not-false}
 use Rattle.making.specs.Making.{tableQuestion}
-use Rattle.making.specs.Views.{valuesThen, laterQuestion}
+use Rattle.making.specs.inner.Views.{valuesThen, laterQuestion}
 use Rattle.making.specs.declared.values.ValuesAnswer.{ValuesAnswer}
 use Rattle.making.proofs.GatherLaws.{limits-are}
 use borrow.Author.Needs.{needs}

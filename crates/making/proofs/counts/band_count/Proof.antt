@@ -4,7 +4,7 @@ use Prim.Native.Nat.{ℕ, _≤_, _-_, max}
 use mathlib.Core.List.{List}
 use native.Mathlib.Omega.{arith}
 use Rattle.table.specs.Desk.{bandCount}
-use Rattle.making.specs.Views.{viewed, noView}
+use Rattle.making.specs.inner.Views.{viewed, noView}
 use Rattle.making.proofs.ViewLaws.{rest, rest-go, rest-end}
 use borrow.Author.Needs.{needs}
 use Rattle.making.proofs.counts.band_count.Statement.{statement}

@@ -1,12 +1,12 @@
 use lib.ListN.{length}
-use Rattle.making.specs.Views.{noView}
+use Rattle.making.specs.inner.Views.{noView}
 use Rattle.making.proofs.ViewLaws.{rest, rest-go, rest-end}
 use mathlib.Core.Path.{_≡_, ap}
 use Prim.Native.Nat.{ℕ, _≤_, _-_, max}
 use mathlib.Core.List.{List}
 use native.Mathlib.Omega.{arith}
 use Rattle.making.specs.Making.{mostChannels}
-use Rattle.making.specs.Views.{viewed}
+use Rattle.making.specs.inner.Views.{viewed}
 use Rattle.making.proofs.ViewLaws.{rest, rest-go, rest-end}
 use borrow.Author.Needs.{needs}
 use Rattle.making.proofs.counts.most_channels.Statement.{statement}

@@ -2,7 +2,7 @@ use mathlib.Core.Path.{_≡_}
 use Prim.Native.Nat.{_≤_, _-_, max}
 use native.Mathlib.Omega.{arith}
 use lib.ListN.{length}
-use Rattle.making.specs.Views.{viewed}
+use Rattle.making.specs.inner.Views.{viewed}
 use Rattle.making.specs.Making.{phaseCount}
 use Rattle.making.proofs.ViewLaws.{rest, phases-go, phases-end}
 use borrow.Author.Needs.{needs}

@@ -2,7 +2,7 @@ use mathlib.Core.Path.{_≡_, refl}
 use Prim.Native.Nat.{_≤_, _-_}
 use native.Mathlib.Omega.{arith}
 use lib.ListN.{length}
-use Rattle.making.specs.Views.{viewed}
+use Rattle.making.specs.inner.Views.{viewed}
 use lib.Ieee.{ofBits, round}
 use mathlib.Core.List.{map}
 use Rattle.table.specs.Table.{PitchEntry}
@@ -10,7 +10,7 @@ use Rattle.table.specs.View.{entryAt}
 use Rattle.float.specs.F32.{nearest}
 use Rattle.voice.specs.Lists.{padded}
 use Rattle.making.specs.Making.{f32, gainOf, mainlobeKey, noiseGainKey}
-use Rattle.making.specs.Views.{noView}
+use Rattle.making.specs.inner.Views.{noView}
 use Rattle.making.proofs.MakeLists.{pad-again-2}
 use borrow.Author.Needs.{needs}
 use Rattle.making.proofs.fill.columns_of.Statement.{statement}

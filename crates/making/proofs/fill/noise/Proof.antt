@@ -1,5 +1,5 @@
 use lib.ListN.{getD}
-use Rattle.making.specs.Views.{noView}
+use Rattle.making.specs.inner.Views.{noView}
 use Prim.Native.Nat.{_/_, _≤_, _-_, _*_}
 use Rattle.making.specs.Making.{sizesOk}
 use Rattle.making.proofs.CoeffLaws.{sizes-are}
@@ -9,7 +9,7 @@ use mathlib.Core.Path.{_≡_, refl}
 use Prim.Native.Nat.{_≤_, _-_, _*_}
 use native.Mathlib.Omega.{arith}
 use lib.ListN.{length}
-use Rattle.making.specs.Views.{viewed}
+use Rattle.making.specs.inner.Views.{viewed}
 use lib.Ieee.{ofBits, round}
 use mathlib.Core.List.{_++_}
 use lib.ListN.{drop, length-set}

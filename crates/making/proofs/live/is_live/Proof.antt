@@ -2,7 +2,7 @@ use mathlib.Core.Path.{refl, ap, _∙_}
 use Prim.Native.Nat.{ℕ}
 use Rattle.table.specs.declared.desk.Kind.{Kind}
 use Rattle.making.specs.Making.{liveAmong, channelCount}
-use Rattle.making.specs.Views.{viewed}
+use Rattle.making.specs.inner.Views.{viewed}
 use borrow.Author.Needs.{needs}
 use Rattle.making.proofs.live.is_live.Statement.{statement}
 use Rattle.making.proofs.live.is_live.Tie as tie

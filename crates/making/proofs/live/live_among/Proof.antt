@@ -1,11 +1,11 @@
 use lib.ListN.{getD}
-use Rattle.making.specs.Views.{noView}
+use Rattle.making.specs.inner.Views.{noView}
 use Rattle.making.proofs.ViewLaws.{rest, live-go, live-yes, live-end, all-here, all-later}
 use mathlib.Core.Path.{_≡_, refl, sym, _∙_}
 use Prim.Native.Nat.{_≤_, _-_}
 use native.Mathlib.Omega.{arith}
 use lib.ListN.{length}
-use Rattle.making.specs.Views.{viewed}
+use Rattle.making.specs.inner.Views.{viewed}
 use mathlib.Core.Bool.{true}
 use Rattle.making.specs.Making.{all, sizesOk, liveAmong}
 use Rattle.making.proofs.ViewLaws.{rest, live-go, live-yes, live-end, all-here, all-later}

@@ -2,9 +2,9 @@ use Rattle.making.specs.Making.{liveBands, isLive}
 use mathlib.Core.Path.{_≡_, refl, sym, ap, _∙_}
 use Prim.Native.Nat.{_≤_, _-_}
 use native.Mathlib.Omega.{arith}
-use Rattle.making.specs.Views.{viewed}
+use Rattle.making.specs.inner.Views.{viewed}
 use mathlib.Core.Bool.{Bool}
-use Rattle.making.specs.Live.{liveOf, addLive}
+use Rattle.making.specs.inner.Live.{liveOf, addLive}
 use Rattle.making.specs.declared.live.Live.{Live}
 use Rattle.making.specs.Making.{liveBands}
 use Rattle.making.proofs.MakeLists.{live-add}

@@ -1,6 +1,6 @@
 use Rattle.table.specs.Table.{PitchEntry}
 use Rattle.voice.specs.Lists.{padded, upTo}
-use Rattle.making.specs.Columns.{columnsOf, listsFrom}
+use Rattle.making.specs.inner.Columns.{columnsOf, listsFrom}
 use Rattle.making.specs.declared.live.Live.{Live}
 use Rattle.making.specs.declared.fill.Columns.{Columns}
 use Rattle.making.specs.declared.init.Bands.{Bands}
@@ -11,7 +11,7 @@ use mathlib.Core.List.{List, []}
 use Prim.Native.Nat.{ℕ}
 use native.Mathlib.Omega.{arith}
 use lib.ListN.{length}
-use Rattle.making.specs.Views.{viewed}
+use Rattle.making.specs.inner.Views.{viewed}
 use Rattle.making.proofs.SortLaws.{all-gathered, bands-few}
 use Rattle.table.proofs.ViewsLaws.{viewed-length}
 use borrow.Author.Needs.{needs}

@@ -4,7 +4,7 @@ use borrow.Author.Tests.{eqb-true}
 use lib.Dec.{eqb}
 use Rattle.wire.specs.Parse.{Refusal}
 use Rattle.making.specs.Making.{tableQuestion, freshVoice, blankVoice}
-use Rattle.making.specs.Views.{viewed}
+use Rattle.making.specs.inner.Views.{viewed}
 use Rattle.making.specs.MakeAnswer.{makeRefusal, tableMade}
 use Rattle.making.proofs.MakingLaws.{table-accepted, accepted-question}
 use Rattle.making.proofs.ReadLaws.{given-back}

@@ -2,7 +2,7 @@ use mathlib.Core.Path.{_≡_, refl, sym, _∙_}
 use Prim.Native.Nat.{_≤_, _-_}
 use native.Mathlib.Omega.{arith}
 use lib.ListN.{length}
-use Rattle.making.specs.Views.{viewed}
+use Rattle.making.specs.inner.Views.{viewed}
 use borrow.Author.Tests.{not-true, not-false}
 use Rattle.wire.specs.Parse.{Refusal}
 use Rattle.making.specs.Making.{askValues}

@@ -121,13 +121,12 @@ loop-again c =
     let b2 = b1 .before in
     let b8 = b2 .before .before .before .before .before .before in
     let b10 = b8 .before .before in
-    let b17 = b10 .before .before .before .before .before .before .before in
-    (
-        omega (arith, b10 .loop .inv .0),
-        omega (arith, b8 .if1 .taken),
-        b1 .out .given .1 ∙ b10 .loop .inv .2,
-        joinTo-again (behind (old b17) (rows b17)) (b17 .args .b .samples) (behind-sized (rows b17) (b17 .args .b .samples) (sized (voice b17) (called b17)) (old b17) (long b17)) (b10 .loop .ch) (b10 .loop .ch * b17 .args .b .samples + b17 .args .b .samples - b10 .loop .ch * b17 .args .b .samples) (b17 .args .out .now) (b10 .loop .out) _ (omega arith) (b10 .loop .inv .3) (b2 .channel-at .ensures .written ∙ sym (behind-at (old b17) (rows b17) (b10 .loop .ch) (b10 .loop .inv .0))),
-      )
+    let b17 = b10 .before .before .before .before .before .before .before in (
+      omega (arith, b10 .loop .inv .0),
+      omega (arith, b8 .if1 .taken),
+      b1 .out .given .1 ∙ b10 .loop .inv .2,
+      joinTo-again (behind (old b17) (rows b17)) (b17 .args .b .samples) (behind-sized (rows b17) (b17 .args .b .samples) (sized (voice b17) (called b17)) (old b17) (long b17)) (b10 .loop .ch) (b10 .loop .ch * b17 .args .b .samples + b17 .args .b .samples - b10 .loop .ch * b17 .args .b .samples) (b17 .args .out .now) (b10 .loop .out) _ (omega arith) (b10 .loop .inv .3) (b2 .channel-at .ensures .written ∙ sym (behind-at (old b17) (rows b17) (b10 .loop .ch) (b10 .loop .inv .0))),
+    )
 
 slice-relend-prefix-channel-at : tie.Need-slice-relend-prefix-channel-at Inv-loop μ-loop
 slice-relend-prefix-channel-at c =
@@ -158,7 +157,7 @@ returns c =
     let b8 = b6 .before .before in
     let b15 = b8 .before .before .before .before .before .before .before in
     let e : b8 .loop .ch ≡ b15 .args .b .channels = omega (arith, b8 .loop .inv .1, b6 .if1 .left) in
-      record { ends = b2 .channel-at2 .ensures .ends; written = behind-last (rows b15) (b15 .args .b .samples) (sized (voice b15) (called b15)) (old b15) (b8 .loop .out) _ (b15 .args .b .channels) (long b15) (b15 .pre .3) (joinTo-full (behind (old b15) (rows b15)) (b15 .args .b .samples) (behind-sized (rows b15) (b15 .args .b .samples) (sized (voice b15) (called b15)) (old b15) (long b15)) (b8 .loop .ch) (b15 .args .b .channels) (b15 .args .out .now) (b8 .loop .out) e (b15 .pre .5) (b8 .loop .inv .3)) (b2 .channel-at2 .ensures .written) }
+    record { ends = b2 .channel-at2 .ensures .ends; written = behind-last (rows b15) (b15 .args .b .samples) (sized (voice b15) (called b15)) (old b15) (b8 .loop .out) _ (b15 .args .b .channels) (long b15) (b15 .pre .3) (joinTo-full (behind (old b15) (rows b15)) (b15 .args .b .samples) (behind-sized (rows b15) (b15 .args .b .samples) (sized (voice b15) (called b15)) (old b15) (long b15)) (b8 .loop .ch) (b15 .args .b .channels) (b15 .args .out .now) (b8 .loop .out) e (b15 .pre .5) (b8 .loop .inv .3)) (b2 .channel-at2 .ensures .written) }
 
 pub block-of-spec : {M : Type 1} → statement M
 block-of-spec =

@@ -1,10 +1,10 @@
-use mathlib.Core.Path.{sym, _∙_, subst}
+use mathlib.Core.Path.{sym, subst}
 use mathlib.Core.List.{List}
 use lib.Ieee.{Float}
 use lib.ListN.{length}
 use Rattle.voice.specs.Input.{call}
 use Rattle.voice.specs.Voice.{voiceOf, stateOf}
-use Rattle.player.specs.Passes.{FrequenciesFit}
+use Rattle.player.specs.inner.Passes.{FrequenciesFit}
 use Rattle.voice.proofs.QuestionLaws.{inputs-fit}
 use Rattle.player.proofs.SoundLaws.{frequencies-fit}
 use Rattle.player.proofs.ChannelLaws.{channel-of-call}

@@ -1,14 +1,12 @@
 use mathlib.Core.Bool.{true, _&&_}
 -- `all_up_to` meets its contract.
-use mathlib.Core.Path.{_≡_, refl, sym, ap, _∙_}
-use Prim.Native.Nat.{ℕ, _+_, _-_, _*_, _≤_, _<_}
+use mathlib.Core.Path.{_≡_, refl}
+use Prim.Native.Nat.{_-_, _≤_}
 use native.Mathlib.Omega.{arith}
-use lib.ListN.{length, getD, length-set}
-use lib.Ieee.{Float, nan, binary32, ofBits}
-use Rattle.float.specs.F32.{_⊕_, _⊗_, nearest}
-use Rattle.voice.specs.Lists.{Filled, FilledRows, steps, mapTo, every}
-use Rattle.voice.proofs.Loops.{steps-again, steps-full, mapTo-again, mapTo-read, mapTo-full}
-use Rattle.player.proofs.ColumnLaws.{filled-none, filled-again, filled-full}
+use lib.ListN.{getD}
+use lib.Ieee.{nan}
+use Rattle.voice.specs.Lists.{steps, every}
+use Rattle.voice.proofs.Loops.{steps-again, steps-full}
 use lib.Ieee.{le}
 use borrow.Author.Needs.{needs}
 use Rattle.player.proofs.columns.all_up_to.Statement.{statement}

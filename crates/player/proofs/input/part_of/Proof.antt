@@ -1,5 +1,5 @@
 use mathlib.Core.Path.{_≡_}
-use Prim.Native.Nat.{ℕ, _+_, _-_, _*_, _%_}
+use Prim.Native.Nat.{_+_, _-_, _*_, _%_}
 use native.Mathlib.Omega.{arith}
 use lib.ListN.{length}
 use borrow.Author.Tests.{eq-eqb, ne-eqb}
@@ -29,21 +29,21 @@ mul-at c =
     let b1 = c .before in
     let b3 = b1 .before .before in
     let e = input-end (b3 .args .k) (b3 .args .samples) (length (b3 .args .s .now)) (b3 .args .ch) (b3 .pre) (ne-eqb _ _ (b1 .if1 .left)) in
-      record { fits = rw (c .row-of .ensures) (omega (arith, b3 .good .1 .0 .1, e .1)) }
+    record { fits = rw (c .row-of .ensures) (omega (arith, b3 .good .1 .0 .1, e .1)) }
 
 add-to : tie.Need-add-to
 add-to c =
     let b1 = c .before in
     let b3 = b1 .before .before in
     let e = input-end (b3 .args .k) (b3 .args .samples) (length (b3 .args .s .now)) (b3 .args .ch) (b3 .pre) (ne-eqb _ _ (b1 .if1 .left)) in
-      record { fits = rw (c .row-of .ensures) (omega (arith, b3 .good .1 .0 .1, e .1)) }
+    record { fits = rw (c .row-of .ensures) (omega (arith, b3 .good .1 .0 .1, e .1)) }
 
 mul-result : tie.Need-mul-result
 mul-result c =
     let b1 = c .before in
     let b3 = b1 .before .before in
     let e = input-end (b3 .args .k) (b3 .args .samples) (length (b3 .args .s .now)) (b3 .args .ch) (b3 .pre) (ne-eqb _ _ (b1 .if1 .left)) in
-      record { fits = rw (c .row-of .ensures) (omega (arith, b3 .good .1 .0 .1, e .1)) }
+    record { fits = rw (c .row-of .ensures) (omega (arith, b3 .good .1 .0 .1, e .1)) }
 
 sub-result : tie.Need-sub-result
 sub-result c = search needs
@@ -56,7 +56,7 @@ part-result-end c =
     let b1 = c .before in
     let b3 = b1 .before .before in
     let e = input-end (b3 .args .k) (b3 .args .samples) (length (b3 .args .s .now)) (b3 .args .ch) (b3 .pre) (ne-eqb _ _ (b1 .if1 .left)) in
-      rw (c .row-of .ensures) (e .1)
+    rw (c .row-of .ensures) (e .1)
 
 returns-2 : tie.Need-returns-2
 unfolding partOf
@@ -65,8 +65,8 @@ returns-2 c =
     let b2 = b1 .before in
     let b4 = b2 .before .before in
     let at = (b4 .args .ch % b4 .args .k) * b4 .args .samples in
-      let h : at + b4 .args .samples - at ≡ b4 .args .samples = omega arith in
-      rw (ne-eqb _ _ (b2 .if1 .left), b1 .row-of .ensures, h)
+    let h : at + b4 .args .samples - at ≡ b4 .args .samples = omega arith in
+    rw (ne-eqb _ _ (b2 .if1 .left), b1 .row-of .ensures, h)
 
 pub part-of-spec : {M : Type 1} → statement M
 part-of-spec =

@@ -35,8 +35,8 @@ block-of-requires c κs =
     let b6 = b5 .before in
     let b15 = b6 .before .before .before .before .before .before .before .before .before in
     let a = play-accepted (voice b15) (called b15) (length (b15 .args .out .now)) (sym (b6 .play-question .ensures) ∙ b5 .if1 .left) in
-      let k = block-is (b15 .args .b .samples) (b15 .args .b .channels) (length (b15 .args .out .now)) (a .1 .block) in
-      (voice-fits (voice b15) (a .0), record { inputs = a .1 .inputs; frequencies = a .1 .frequencies }, k .0, k .1, k .2, k .3)
+    let k = block-is (b15 .args .b .samples) (b15 .args .b .channels) (length (b15 .args .out .now)) (a .1 .block) in
+    (voice-fits (voice b15) (a .0), record { inputs = a .1 .inputs; frequencies = a .1 .frequencies }, k .0, k .1, k .2, k .3)
 
 same-length : tie.Need-same-length
 same-length c = search needs

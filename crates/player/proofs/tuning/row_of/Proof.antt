@@ -1,13 +1,11 @@
 -- `row_of` meets its contract.
-use mathlib.Core.Path.{_≡_, refl, sym, ap, _∙_}
-use Prim.Native.Nat.{ℕ, _+_, _-_, _*_, _≤_, _<_}
+use mathlib.Core.Path.{_≡_}
+use Prim.Native.Nat.{ℕ, _-_, _≤_}
 use native.Mathlib.Omega.{arith}
-use lib.ListN.{length, getD, length-set}
-use lib.Ieee.{Float, nan, binary32, ofBits}
-use Rattle.float.specs.F32.{_⊕_, _⊗_, nearest}
-use Rattle.voice.specs.Lists.{Filled, FilledRows, steps, mapTo, every}
-use Rattle.voice.proofs.Loops.{steps-again, steps-full, mapTo-again, mapTo-read, mapTo-full}
-use Rattle.player.proofs.ColumnLaws.{filled-none, filled-again, filled-full, RowFilled, row-none, row-again, rows-keep, rows-again}
+use lib.ListN.{length, length-set}
+use lib.Ieee.{Float}
+use Rattle.voice.specs.Lists.{FilledRows}
+use Rattle.player.proofs.ColumnLaws.{RowFilled, row-none, row-again, rows-keep, rows-again}
 use Rattle.player.specs.Sound.{partialRow}
 use borrow.Author.Needs.{needs}
 use Rattle.player.proofs.tuning.row_of.Statement.{statement}

@@ -1,12 +1,11 @@
 -- `steps_of` meets its contract.
-use mathlib.Core.Path.{_≡_, refl, sym, ap, _∙_}
-use Prim.Native.Nat.{ℕ, _+_, _-_, _*_, _≤_, _<_}
+use mathlib.Core.Path.{_≡_, ap}
+use Prim.Native.Nat.{_+_, _-_, _≤_}
 use native.Mathlib.Omega.{arith}
-use lib.ListN.{length, getD, length-set}
-use lib.Ieee.{Float, nan, binary32, ofBits}
-use Rattle.float.specs.F32.{_⊕_, _⊗_, nearest}
-use Rattle.voice.specs.Lists.{Filled, FilledRows, steps, mapTo, every}
-use Rattle.voice.proofs.Loops.{steps-again, steps-full, mapTo-again, mapTo-read, mapTo-full}
+use lib.ListN.{length, length-set}
+use lib.Ieee.{Float}
+use Rattle.float.specs.F32.{_⊗_}
+use Rattle.voice.specs.Lists.{Filled}
 use Rattle.player.proofs.ColumnLaws.{filled-none, filled-again, filled-full}
 use Rattle.player.specs.Phase.{partialFreq, stepOf}
 use borrow.Author.Needs.{needs}

@@ -1,5 +1,4 @@
 -- `tune` meets its contract.
-use native.Mathlib.Omega.{arith}
 use lib.Ieee.{ofBits, round}
 use Rattle.player.proofs.ToneLaws.{tuned-is}
 use borrow.Author.Needs.{needs}

@@ -19,22 +19,18 @@ slice-aggregate-same-count : tie.Need-slice-aggregate-same-count Inv-loop μ-loo
 slice-aggregate-same-count c = search needs
 
 -- src/places.rt:269:39
-mul-same-count : tie.Need-mul-same-count Inv-loop μ-loop
-mul-same-count c = search needs
+array-read-band-of : tie.Need-array-read-band-of Inv-loop μ-loop
+array-read-band-of c = search needs
 
--- src/places.rt:269:39
-array-read-same-count : tie.Need-array-read-same-count Inv-loop μ-loop
-array-read-same-count c = search needs
+band-of-requires : tie.Need-band-of-requires Inv-loop μ-loop
+band-of-requires c κs = search needs
 
--- src/places.rt:269:48
-mul-same-count-2 : tie.Need-mul-same-count-2 Inv-loop μ-loop
-mul-same-count-2 c = search needs
+array-read-band-of-2 : tie.Need-array-read-band-of-2 Inv-loop μ-loop
+array-read-band-of-2 c = search needs
 
--- src/places.rt:269:48
-array-read-same-count-2 : tie.Need-array-read-same-count-2 Inv-loop μ-loop
-array-read-same-count-2 c = search needs
+band-of-requires-2 : tie.Need-band-of-requires-2 Inv-loop μ-loop
+band-of-requires-2 c κs = search needs
 
--- src/places.rt:269:9
 same-count-requires : tie.Need-same-count-requires Inv-loop μ-loop
 same-count-requires c κs = search needs
 
@@ -62,10 +58,10 @@ same-live-spec =
     μ-loop
     loop-holds
     slice-aggregate-same-count
-    mul-same-count
-    array-read-same-count
-    mul-same-count-2
-    array-read-same-count-2
+    array-read-band-of
+    band-of-requires
+    array-read-band-of-2
+    band-of-requires-2
     same-count-requires
     add-i
     loop-less

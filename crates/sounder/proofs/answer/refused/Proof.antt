@@ -1,9 +1,7 @@
-use mathlib.Core.Path.{_≡_, refl}
+use mathlib.Core.Path.{refl}
 use borrow.Author.Needs.{needs}
 use Rattle.sounder.proofs.answer.refused.Statement.{statement}
 use Rattle.sounder.proofs.answer.refused.Tie as tie
-use Rattle.sounder.proofs.answer.refused.Reads as reads
-use Rattle.sounder.proofs.answer.refused.Lts as lts
 
 -- src/answer.rt:21:42
 enum-told : tie.Need-enum-told

@@ -1,14 +1,9 @@
-use mathlib.Core.Path.{_≡_, refl, sym, ap, _∙_}
-use Rattle.table.specs.Desk.{deskAnswer, deskOutcome}
+use mathlib.Core.Path.{sym, ap, _∙_}
+use Rattle.table.specs.Desk.{deskAnswer}
 use Rattle.sounder.specs.Answer.{deskNumbers}
 use borrow.Author.Needs.{needs}
 use Rattle.sounder.proofs.images.sounder_desk.Statement.{statement}
 use Rattle.sounder.proofs.images.sounder_desk.Tie as tie
-use Rattle.sounder.proofs.images.sounder_desk.Reads as reads
-use Rattle.sounder.proofs.images.sounder_desk.Lts as lts
-use Rattle.sounder.proofs.answer.refused.Reads as refused-reads
-use Rattle.sounder.proofs.kind.kind_of.Reads as kind-of-reads
-use Rattle.table.proofs.desk.for_voice.Reads as for-voice-reads
 
 -- src/images.rt:78:28
 kind-of-requires : tie.Need-kind-of-requires

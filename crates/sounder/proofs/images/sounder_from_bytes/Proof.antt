@@ -1,13 +1,9 @@
-use mathlib.Core.Path.{_≡_, refl, sym, ap, _∙_}
+use mathlib.Core.Path.{sym, ap, _∙_}
 use Rattle.table.specs.Answer.{readingParsed}
 use Rattle.sounder.specs.Answer.{countsAnswer}
 use borrow.Author.Needs.{needs}
 use Rattle.sounder.proofs.images.sounder_from_bytes.Statement.{statement}
 use Rattle.sounder.proofs.images.sounder_from_bytes.Tie as tie
-use Rattle.sounder.proofs.images.sounder_from_bytes.Reads as reads
-use Rattle.sounder.proofs.images.sounder_from_bytes.Lts as lts
-use Rattle.sounder.proofs.answer.refused.Reads as refused-reads
-use Rattle.table.proofs.read.from_bytes.Reads as from-bytes-reads
 
 -- src/images.rt:42:11
 from-bytes-requires : tie.Need-from-bytes-requires

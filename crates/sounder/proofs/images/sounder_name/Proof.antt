@@ -1,14 +1,10 @@
-use mathlib.Core.Path.{_≡_, refl, sym, ap, _∙_}
+use mathlib.Core.Path.{refl, sym, ap, _∙_}
 use Rattle.table.specs.Answer.{readingParsed}
 use Rattle.table.proofs.ReadLaws.{refused-is}
 use Rattle.sounder.proofs.DoorLaws.{name-of-accepted, place-of-accepted}
 use borrow.Author.Needs.{needs}
 use Rattle.sounder.proofs.images.sounder_name.Statement.{statement}
 use Rattle.sounder.proofs.images.sounder_name.Tie as tie
-use Rattle.sounder.proofs.images.sounder_name.Reads as reads
-use Rattle.sounder.proofs.images.sounder_name.Lts as lts
-use Rattle.table.proofs.read.from_bytes.Reads as from-bytes-reads
-use Rattle.table.proofs.read.name.Reads as name-reads
 
 -- src/images.rt:104:11
 from-bytes-requires : tie.Need-from-bytes-requires

@@ -1,13 +1,9 @@
-use mathlib.Core.Path.{_≡_, refl, sym, ap, _∙_}
+use mathlib.Core.Path.{sym, ap, _∙_}
 use Rattle.table.specs.Rewrite.{rewritingParsed}
 use Rattle.sounder.specs.Answer.{countsAnswer}
 use borrow.Author.Needs.{needs}
 use Rattle.sounder.proofs.images.sounder_to_bytes.Statement.{statement}
 use Rattle.sounder.proofs.images.sounder_to_bytes.Tie as tie
-use Rattle.sounder.proofs.images.sounder_to_bytes.Reads as reads
-use Rattle.sounder.proofs.images.sounder_to_bytes.Lts as lts
-use Rattle.sounder.proofs.answer.refused.Reads as refused-reads
-use Rattle.table.proofs.rewrite.to_bytes.Reads as to-bytes-reads
 
 -- src/images.rt:58:11
 to-bytes-requires : tie.Need-to-bytes-requires

@@ -1,10 +1,7 @@
-use mathlib.Core.Path.{_≡_, refl, sym}
+use mathlib.Core.Path.{refl, sym}
 use Rattle.sounder.proofs.DoorLaws.{blend-kind}
-use borrow.Author.Needs.{needs}
 use Rattle.sounder.proofs.kind.kind_of.Statement.{statement}
 use Rattle.sounder.proofs.kind.kind_of.Tie as tie
-use Rattle.sounder.proofs.kind.kind_of.Reads as reads
-use Rattle.sounder.proofs.kind.kind_of.Lts as lts
 
 -- src/kind.rt:7:1
 returns : tie.Need-returns

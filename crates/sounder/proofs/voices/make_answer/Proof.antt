@@ -1,12 +1,9 @@
-use mathlib.Core.Path.{_≡_, refl, sym, ap, _∙_}
+use mathlib.Core.Path.{refl, sym, ap, _∙_}
 use Rattle.making.specs.MakeAnswer.{makeRefusal}
 use Rattle.sounder.specs.Answer.{refusalAnswer}
 use borrow.Author.Needs.{needs}
 use Rattle.sounder.proofs.voices.make_answer.Statement.{statement}
 use Rattle.sounder.proofs.voices.make_answer.Tie as tie
-use Rattle.sounder.proofs.voices.make_answer.Reads as reads
-use Rattle.sounder.proofs.voices.make_answer.Lts as lts
-use Rattle.sounder.proofs.answer.refused.Reads as refused-reads
 
 -- src/voices.rt:44:29
 enum-told : tie.Need-enum-told

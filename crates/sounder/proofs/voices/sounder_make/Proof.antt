@@ -1,13 +1,8 @@
-use mathlib.Core.Path.{_≡_, refl, sym, ap, _∙_}
+use mathlib.Core.Path.{ap}
 use Rattle.sounder.specs.Player.{madeAnswer}
 use borrow.Author.Needs.{needs}
 use Rattle.sounder.proofs.voices.sounder_make.Statement.{statement}
 use Rattle.sounder.proofs.voices.sounder_make.Tie as tie
-use Rattle.sounder.proofs.voices.sounder_make.Reads as reads
-use Rattle.sounder.proofs.voices.sounder_make.Lts as lts
-use Rattle.making.proofs.make.Reads as make-reads
-use Rattle.sounder.proofs.kind.kind_of.Reads as kind-of-reads
-use Rattle.sounder.proofs.voices.make_answer.Reads as make-answer-reads
 
 -- src/voices.rt:112:21
 kind-of-requires : tie.Need-kind-of-requires

@@ -1,12 +1,8 @@
-use mathlib.Core.Path.{_≡_, refl, sym, ap, _∙_}
+use mathlib.Core.Path.{ap}
 use Rattle.sounder.specs.Player.{playedAnswer}
 use borrow.Author.Needs.{needs}
 use Rattle.sounder.proofs.voices.sounder_reseed.Statement.{statement}
 use Rattle.sounder.proofs.voices.sounder_reseed.Tie as tie
-use Rattle.sounder.proofs.voices.sounder_reseed.Reads as reads
-use Rattle.sounder.proofs.voices.sounder_reseed.Lts as lts
-use Rattle.voice.proofs.reseed.Reads as reseed-reads
-use Rattle.sounder.proofs.voices.play_number.Reads as play-number-reads
 
 -- src/voices.rt:190:9
 reseed-requires : tie.Need-reseed-requires

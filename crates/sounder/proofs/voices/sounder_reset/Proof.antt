@@ -1,12 +1,8 @@
-use mathlib.Core.Path.{_≡_, refl, sym, ap, _∙_}
+use mathlib.Core.Path.{ap}
 use Rattle.sounder.specs.Player.{playedAnswer}
 use borrow.Author.Needs.{needs}
 use Rattle.sounder.proofs.voices.sounder_reset.Statement.{statement}
 use Rattle.sounder.proofs.voices.sounder_reset.Tie as tie
-use Rattle.sounder.proofs.voices.sounder_reset.Reads as reads
-use Rattle.sounder.proofs.voices.sounder_reset.Lts as lts
-use Rattle.voice.proofs.reset.Reads as reset-reads
-use Rattle.sounder.proofs.voices.play_number.Reads as play-number-reads
 
 -- src/voices.rt:176:9
 reset-requires : tie.Need-reset-requires

@@ -3,8 +3,6 @@ use lib.ListN.{List·getD-eq-default}
 use borrow.Author.Needs.{needs}
 use Rattle.table.proofs.bytes.byte_or.Statement.{statement}
 use Rattle.table.proofs.bytes.byte_or.Tie as tie
-use Rattle.table.proofs.bytes.byte_or.Reads as reads
-use Rattle.table.proofs.bytes.byte_or.Lts as lts
 
 -- src/bytes.rt:43:22
 shared-slice-read-result : tie.Need-shared-slice-read-result

@@ -4,8 +4,6 @@ use Rattle.table.proofs.BytesLaws.{part-past, part-end}
 use borrow.Author.Needs.{needs}
 use Rattle.table.proofs.bytes.part_of.Statement.{statement}
 use Rattle.table.proofs.bytes.part_of.Tie as tie
-use Rattle.table.proofs.bytes.part_of.Reads as reads
-use Rattle.table.proofs.bytes.part_of.Lts as lts
 
 -- src/bytes.rt:13:9
 slice-aggregate-result : tie.Need-slice-aggregate-result

@@ -7,8 +7,6 @@ use Rattle.table.proofs.BytesLaws.{same-unlike, same-go, same-stop, sam
 use borrow.Author.Needs.{needs}
 use Rattle.table.proofs.bytes.same_bytes.Statement.{statement}
 use Rattle.table.proofs.bytes.same_bytes.Tie as tie
-use Rattle.table.proofs.bytes.same_bytes.Reads as reads
-use Rattle.table.proofs.bytes.same_bytes.Lts as lts
 
 abbrev Inv-loop : tie.InvT-loop
 Inv-loop a b i₀ i = (i ≤ length a) × (same (drop i a) (drop i b) ≡ same a b)

@@ -1,4 +1,4 @@
-use mathlib.Core.Path.{_≡_, refl, sym, ap, _∙_}
+use mathlib.Core.Path.{_≡_, sym, ap, _∙_}
 use Prim.Native.Nat.{_≤_, _-_, max}
 use native.Mathlib.Omega.{arith}
 use Rattle.wire.specs.Parse.{standing}
@@ -11,11 +11,6 @@ use Rattle.table.proofs.DeskLaws.{bands-go, bands-none}
 use borrow.Author.Needs.{needs}
 use Rattle.table.proofs.desk.bands_among.Statement.{statement}
 use Rattle.table.proofs.desk.bands_among.Tie as tie
-use Rattle.table.proofs.desk.bands_among.Reads as reads
-use Rattle.table.proofs.desk.bands_among.Lts as lts
-use Rattle.table.proofs.desk.bands_of.Reads as bands-of-reads
-use Rattle.table.proofs.desk.larger.Reads as larger-reads
-use Rattle.table.proofs.entry.entry_at.Reads as entry-at-reads
 
 abbrev Inv-loop : tie.InvT-loop
 Inv-loop s n kind d₀ i₀ best₀ d i best = (i ≤ n) × (max best (bandCount kind (standing entry i (n - i) s (d .at))) ≡ bandCount kind (entryList n s (d₀ .at)))

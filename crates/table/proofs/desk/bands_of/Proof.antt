@@ -1,10 +1,8 @@
-use mathlib.Core.Path.{_≡_, refl, sym, ap, _∙_}
+use mathlib.Core.Path.{refl}
 use borrow.Author.Tests.{lt-ltb, le-ltb}
 use borrow.Author.Needs.{needs}
 use Rattle.table.proofs.desk.bands_of.Statement.{statement}
 use Rattle.table.proofs.desk.bands_of.Tie as tie
-use Rattle.table.proofs.desk.bands_of.Reads as reads
-use Rattle.table.proofs.desk.bands_of.Lts as lts
 
 -- src/desk.rt:52:22
 enum-known-kind : tie.Need-enum-known-kind

@@ -1,11 +1,7 @@
-use mathlib.Core.Path.{_≡_, refl, sym, ap, _∙_}
+use mathlib.Core.Path.{refl}
 use borrow.Author.Needs.{needs}
 use Rattle.table.proofs.desk.desk_at.Statement.{statement}
 use Rattle.table.proofs.desk.desk_at.Tie as tie
-use Rattle.table.proofs.desk.desk_at.Reads as reads
-use Rattle.table.proofs.desk.desk_at.Lts as lts
-use Rattle.table.proofs.desk.bands_among.Reads as bands-among-reads
-use Rattle.table.proofs.desk.first_value.Reads as first-value-reads
 
 -- src/desk.rt:110:9
 bands-among-requires : tie.Need-bands-among-requires

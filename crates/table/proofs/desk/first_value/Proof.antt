@@ -1,15 +1,9 @@
-use mathlib.Core.Path.{_≡_, refl, sym, ap, _∙_}
+use mathlib.Core.Path.{sym, ap, _∙_}
 use Rattle.table.specs.Answer.{entryParsed}
-use Rattle.table.specs.Desk.{orElse}
 use Rattle.table.proofs.DeskLaws.{first-empty, first-go, first-no}
 use borrow.Author.Needs.{needs}
 use Rattle.table.proofs.desk.first_value.Statement.{statement}
 use Rattle.table.proofs.desk.first_value.Tie as tie
-use Rattle.table.proofs.desk.first_value.Reads as reads
-use Rattle.table.proofs.desk.first_value.Lts as lts
-use Rattle.table.proofs.desk.or_else.Reads as or-else-reads
-use Rattle.table.proofs.entry.entry_at.Reads as entry-at-reads
-use Rattle.table.proofs.entry.metadata_value.Reads as metadata-value-reads
 
 -- src/desk.rt:98:9
 returns : tie.Need-returns

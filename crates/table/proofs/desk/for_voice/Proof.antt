@@ -1,17 +1,9 @@
-use mathlib.Core.Path.{_≡_, refl, sym, ap, _∙_}
-use Rattle.wire.specs.Parse.{Parsed}
-use Rattle.table.specs.Table.{CoeffTable}
+use mathlib.Core.Path.{refl, sym, ap, _∙_}
 use Rattle.table.specs.Answer.{headerParsed, readingParsed}
-use Rattle.table.specs.Desk.{deskOutcome}
 use Rattle.table.proofs.ReadLaws.{refused-is, headless, read-table}
 use borrow.Author.Needs.{needs}
 use Rattle.table.proofs.desk.for_voice.Statement.{statement}
 use Rattle.table.proofs.desk.for_voice.Tie as tie
-use Rattle.table.proofs.desk.for_voice.Reads as reads
-use Rattle.table.proofs.desk.for_voice.Lts as lts
-use Rattle.table.proofs.desk.desk_at.Reads as desk-at-reads
-use Rattle.table.proofs.header.header_at.Reads as header-at-reads
-use Rattle.table.proofs.read.from_bytes.Reads as from-bytes-reads
 
 -- src/desk.rt:124:11
 from-bytes-requires : tie.Need-from-bytes-requires

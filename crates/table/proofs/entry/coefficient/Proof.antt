@@ -1,13 +1,10 @@
-use Prim.Native.Nat.{ℕ, _+_, _*_, _<_, _^_}
-use mathlib.Core.Path.{_≡_, sym, _∙_}
+use Prim.Native.Nat.{_+_, _<_, _^_}
+use mathlib.Core.Path.{sym, _∙_}
 use native.Mathlib.Omega.{arith}
 use Rattle.table.proofs.EntryLaws.{product-fits, coefficient-none, coefficient-past, coefficient-is, coefficient-first, coefficient-short}
 use borrow.Author.Needs.{needs}
 use Rattle.table.proofs.entry.coefficient.Statement.{statement}
 use Rattle.table.proofs.entry.coefficient.Tie as tie
-use Rattle.table.proofs.entry.coefficient.Reads as reads
-use Rattle.table.proofs.entry.coefficient.Lts as lts
-use Rattle.table.proofs.entry.nth_coefficient.Reads as nth-coefficient-reads
 
 -- src/entry.rt:153:18
 cast-width : tie.Need-cast-width

@@ -1,15 +1,10 @@
-use Prim.Native.Nat.{_*_}
-use mathlib.Core.Path.{_≡_, refl, sym, ap, _∙_}
+use mathlib.Core.Path.{sym, ap, _∙_}
 use Rattle.wire.specs.Cursor.{u32Parsed, takenParsed}
 use Rattle.table.specs.Answer.{placedCount}
 use Rattle.table.proofs.WordLaws.{counted-none, counted-ok, counted-short, count-placed}
 use borrow.Author.Needs.{needs}
 use Rattle.table.proofs.entry.counted_at.Statement.{statement}
 use Rattle.table.proofs.entry.counted_at.Tie as tie
-use Rattle.table.proofs.entry.counted_at.Reads as reads
-use Rattle.table.proofs.entry.counted_at.Lts as lts
-use Rattle.wire.proofs.cursor.Cursor.take.Reads as take-reads
-use Rattle.wire.proofs.cursor.Cursor.u32.Reads as u32-reads
 
 -- src/entry.rt:53:36
 u32-requires : tie.Need-u32-requires

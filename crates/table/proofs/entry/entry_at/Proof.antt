@@ -13,12 +13,6 @@ use Rattle.table.proofs.SizeLaws.{entry-end, view-is}
 use borrow.Author.Needs.{needs}
 use Rattle.table.proofs.entry.entry_at.Statement.{statement}
 use Rattle.table.proofs.entry.entry_at.Tie as tie
-use Rattle.table.proofs.entry.entry_at.Reads as reads
-use Rattle.table.proofs.entry.entry_at.Lts as lts
-use Rattle.table.proofs.entry.counted_at.Reads as counted-at-reads
-use Rattle.table.proofs.entry.is_well_formed.Reads as is-well-formed-reads
-use Rattle.table.proofs.metadata.skip_pairs.Reads as skip-pairs-reads
-use Rattle.wire.proofs.cursor.Cursor.u32.Reads as u32-reads
 
 -- src/entry.rt:81:37
 u32-requires : tie.Need-u32-requires

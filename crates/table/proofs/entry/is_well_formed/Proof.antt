@@ -4,8 +4,6 @@ use Rattle.table.proofs.EntryLaws.{no-rows, too-wide, product-fits}
 use borrow.Author.Needs.{needs}
 use Rattle.table.proofs.entry.is_well_formed.Statement.{statement}
 use Rattle.table.proofs.entry.is_well_formed.Tie as tie
-use Rattle.table.proofs.entry.is_well_formed.Reads as reads
-use Rattle.table.proofs.entry.is_well_formed.Lts as lts
 
 -- src/entry.rt:68:9
 returns : tie.Need-returns

@@ -3,9 +3,6 @@ use Rattle.table.proofs.WordLaws.{word-past, word-outside, word-at-inde
 use borrow.Author.Needs.{needs}
 use Rattle.table.proofs.entry.nth_coefficient.Statement.{statement}
 use Rattle.table.proofs.entry.nth_coefficient.Tie as tie
-use Rattle.table.proofs.entry.nth_coefficient.Reads as reads
-use Rattle.table.proofs.entry.nth_coefficient.Lts as lts
-use Rattle.table.proofs.bytes.word_or.Reads as word-or-reads
 
 -- src/entry.rt:139:9
 cast-if1 : tie.Need-cast-if1

@@ -1,4 +1,4 @@
-use mathlib.Core.Path.{_≡_, refl, sym, ap, _∙_}
+use mathlib.Core.Path.{refl, sym, ap, _∙_}
 use mathlib.Core.List.{List}
 use Prim.Native.Nat.{ℕ}
 use borrow.Author.Tests.{le-leb, lt-leb}
@@ -9,14 +9,6 @@ use Rattle.table.proofs.BytesLaws.{not-false, not-true}
 use borrow.Author.Needs.{needs}
 use Rattle.table.proofs.header.header_at.Statement.{statement}
 use Rattle.table.proofs.header.header_at.Tie as tie
-use Rattle.table.proofs.header.header_at.Reads as reads
-use Rattle.table.proofs.header.header_at.Lts as lts
-use Rattle.table.proofs.bytes.part_of.Reads as part-of-reads
-use Rattle.table.proofs.bytes.same_bytes.Reads as same-bytes-reads
-use Rattle.wire.proofs.cursor.Cursor.string.Reads as string-reads
-use Rattle.wire.proofs.cursor.Cursor.take.Reads as take-reads
-use Rattle.wire.proofs.cursor.Cursor.u16.Reads as u16-reads
-use Rattle.wire.proofs.cursor.Cursor.u32.Reads as u32-reads
 
 -- src/header.rt:31:29
 take-requires : tie.Need-take-requires

@@ -5,11 +5,6 @@ use Rattle.table.proofs.LookupLaws.{view-table}
 use borrow.Author.Needs.{needs}
 use Rattle.table.proofs.lookup.entry.Statement.{statement}
 use Rattle.table.proofs.lookup.entry.Tie as tie
-use Rattle.table.proofs.lookup.entry.Reads as reads
-use Rattle.table.proofs.lookup.entry.Lts as lts
-use Rattle.table.proofs.header.header_at.Reads as header-at-reads
-use Rattle.table.proofs.lookup.entry_among.Reads as entry-among-reads
-use Rattle.table.proofs.read.from_bytes.Reads as from-bytes-reads
 
 -- src/lookup.rt:48:11
 from-bytes-requires : tie.Need-from-bytes-requires

@@ -13,9 +13,6 @@ use Rattle.table.proofs.LookupLaws.{view-here, view-go, view-none}
 use borrow.Author.Needs.{needs}
 use Rattle.table.proofs.lookup.entry_among.Statement.{statement}
 use Rattle.table.proofs.lookup.entry_among.Tie as tie
-use Rattle.table.proofs.lookup.entry_among.Reads as reads
-use Rattle.table.proofs.lookup.entry_among.Lts as lts
-use Rattle.table.proofs.entry.entry_at.Reads as entry-at-reads
 
 abbrev Inv-loop : tie.InvT-loop
 Inv-loop s n index d₀ i₀ d i = (i ≤ n) × (i ≤ index) × (viewFrom (d .at) (standing entry i (n - i) s (d .at)) (index - i) ≡ viewFrom (d₀ .at) (entryList n s (d₀ .at)) index)

@@ -12,11 +12,6 @@ use Rattle.table.proofs.MetadataLaws.{find-here, find-go}
 use borrow.Author.Needs.{needs}
 use Rattle.table.proofs.metadata.find.Statement.{statement}
 use Rattle.table.proofs.metadata.find.Tie as tie
-use Rattle.table.proofs.metadata.find.Reads as reads
-use Rattle.table.proofs.metadata.find.Lts as lts
-use Rattle.table.proofs.bytes.part_of.Reads as part-of-reads
-use Rattle.table.proofs.bytes.same_bytes.Reads as same-bytes-reads
-use Rattle.table.proofs.metadata.pair_at.Reads as pair-at-reads
 
 abbrev Inv-loop : tie.InvT-loop
 Inv-loop s n key d₀ i₀ d i = (i ≤ n) × (metadataValue key (standing (λ i. pair) i (n - i) s (d .at)) ≡ metadataValue key (pairList n s (d₀ .at)))

@@ -1,13 +1,9 @@
-use mathlib.Core.Path.{_≡_, refl, sym, ap, _∙_}
+use mathlib.Core.Path.{refl, sym, ap, _∙_}
 use Rattle.wire.specs.Cursor.{u32Parsed, stringParsed}
 use Rattle.table.specs.Image.{pair}
 use borrow.Author.Needs.{needs}
 use Rattle.table.proofs.metadata.pair_at.Statement.{statement}
 use Rattle.table.proofs.metadata.pair_at.Tie as tie
-use Rattle.table.proofs.metadata.pair_at.Reads as reads
-use Rattle.table.proofs.metadata.pair_at.Lts as lts
-use Rattle.wire.proofs.cursor.Cursor.string.Reads as string-reads
-use Rattle.wire.proofs.cursor.Cursor.u32.Reads as u32-reads
 
 -- src/metadata.rt:35:11
 string-requires : tie.Need-string-requires

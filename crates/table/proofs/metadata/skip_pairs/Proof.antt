@@ -9,9 +9,6 @@ use Rattle.table.proofs.MetadataLaws.{skip-go}
 use borrow.Author.Needs.{needs}
 use Rattle.table.proofs.metadata.skip_pairs.Statement.{statement}
 use Rattle.table.proofs.metadata.skip_pairs.Tie as tie
-use Rattle.table.proofs.metadata.skip_pairs.Reads as reads
-use Rattle.table.proofs.metadata.skip_pairs.Lts as lts
-use Rattle.table.proofs.metadata.pair_at.Reads as pair-at-reads
 
 abbrev Inv-loop : tie.InvT-loop
 Inv-loop s n d₀ i₀ d i = (i ≤ n) × (skips (many (λ i. pair) i (n - i) s (d .at)) ≡ skips (pairs n s (d₀ .at)))

@@ -1,11 +1,9 @@
-use mathlib.Core.Path.{_≡_, refl}
+use mathlib.Core.Path.{refl}
 use Rattle.table.specs.Baseline.{verdictFrom}
 use Rattle.table.specs.Span.{agree}
 use borrow.Author.Needs.{needs}
 use Rattle.table.proofs.read.conclude.Statement.{statement}
 use Rattle.table.proofs.read.conclude.Tie as tie
-use Rattle.table.proofs.read.conclude.Reads as reads
-use Rattle.table.proofs.read.conclude.Lts as lts
 
 -- src/read.rt:30:26
 enum-known-j : tie.Need-enum-known-j

@@ -11,12 +11,6 @@ use Rattle.table.proofs.SpanLaws.{entries-go, entries-no, entries-end}
 use borrow.Author.Needs.{needs}
 use Rattle.table.proofs.read.entries_at.Statement.{statement}
 use Rattle.table.proofs.read.entries_at.Tie as tie
-use Rattle.table.proofs.read.entries_at.Reads as reads
-use Rattle.table.proofs.read.entries_at.Lts as lts
-use Rattle.table.proofs.entry.entry_at.Reads as entry-at-reads
-use Rattle.table.proofs.read.conclude.Reads as conclude-reads
-use Rattle.table.proofs.span.judge.Reads as judge-reads
-use Rattle.table.proofs.span.span_of.Reads as span-of-reads
 
 abbrev Inv-loop : tie.InvT-loop
 Inv-loop s n d₀ i₀ j₀ d i j = (i ≤ n) × (outcome j i (many entry i (n - i) s (d .at)) ≡ outcome Baseline.Start 0 (entries n s (d₀ .at)))

@@ -1,13 +1,9 @@
-use mathlib.Core.Path.{_≡_, refl, sym, ap, _∙_}
+use mathlib.Core.Path.{sym, ap, _∙_}
 use Rattle.table.specs.Answer.{headerParsed, counts}
 use Rattle.table.proofs.ReadLaws.{read-long, read-no, read-go}
 use borrow.Author.Needs.{needs}
 use Rattle.table.proofs.read.from_bytes.Statement.{statement}
 use Rattle.table.proofs.read.from_bytes.Tie as tie
-use Rattle.table.proofs.read.from_bytes.Reads as reads
-use Rattle.table.proofs.read.from_bytes.Lts as lts
-use Rattle.table.proofs.header.header_at.Reads as header-at-reads
-use Rattle.table.proofs.read.entries_at.Reads as entries-at-reads
 
 -- src/read.rt:64:9
 returns : tie.Need-returns

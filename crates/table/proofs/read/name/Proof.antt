@@ -1,15 +1,10 @@
-use mathlib.Core.Path.{_≡_, refl, sym, ap, _∙_}
+use mathlib.Core.Path.{refl, sym, ap, _∙_}
 use Rattle.table.specs.Decode.{nameOf}
 use Rattle.table.specs.Answer.{headerParsed, readingParsed}
 use Rattle.table.proofs.ReadLaws.{refused-is, headless, read-table}
 use borrow.Author.Needs.{needs}
 use Rattle.table.proofs.read.name.Statement.{statement}
 use Rattle.table.proofs.read.name.Tie as tie
-use Rattle.table.proofs.read.name.Reads as reads
-use Rattle.table.proofs.read.name.Lts as lts
-use Rattle.table.proofs.bytes.part_of.Reads as part-of-reads
-use Rattle.table.proofs.header.header_at.Reads as header-at-reads
-use Rattle.table.proofs.read.from_bytes.Reads as from-bytes-reads
 
 -- src/read.rt:76:11
 from-bytes-requires : tie.Need-from-bytes-requires

@@ -7,8 +7,6 @@ use Rattle.table.proofs.Rewritten.{copy-step}
 use borrow.Author.Needs.{needs}
 use Rattle.table.proofs.rewrite.copy_first.Statement.{statement}
 use Rattle.table.proofs.rewrite.copy_first.Tie as tie
-use Rattle.table.proofs.rewrite.copy_first.Reads as reads
-use Rattle.table.proofs.rewrite.copy_first.Lts as lts
 
 abbrev Inv-loop : tie.InvT-loop
 Inv-loop from into₀ n i₀ into i = (i ≤ n) × (length into ≡ length into₀) × (into ≡ take i from ++ drop i into₀)

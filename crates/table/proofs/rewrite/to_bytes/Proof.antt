@@ -8,10 +8,6 @@ use Rattle.table.proofs.Rewritten.{rewrite-no, rewrite-small, rewrite-f
 use borrow.Author.Needs.{needs}
 use Rattle.table.proofs.rewrite.to_bytes.Statement.{statement}
 use Rattle.table.proofs.rewrite.to_bytes.Tie as tie
-use Rattle.table.proofs.rewrite.to_bytes.Reads as reads
-use Rattle.table.proofs.rewrite.to_bytes.Lts as lts
-use Rattle.table.proofs.read.from_bytes.Reads as from-bytes-reads
-use Rattle.table.proofs.rewrite.copy_first.Reads as copy-first-reads
 
 -- src/rewrite.rt:37:11
 from-bytes-requires : tie.Need-from-bytes-requires

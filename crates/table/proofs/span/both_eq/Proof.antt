@@ -1,10 +1,7 @@
-use mathlib.Core.Path.{_≡_, refl, sym, _∙_}
+use mathlib.Core.Path.{refl, sym, _∙_}
 use borrow.Author.Needs.{needs}
 use Rattle.table.proofs.span.both_eq.Statement.{statement}
 use Rattle.table.proofs.span.both_eq.Tie as tie
-use Rattle.table.proofs.span.both_eq.Reads as reads
-use Rattle.table.proofs.span.both_eq.Lts as lts
-use Rattle.table.proofs.span.float_eq.Reads as float-eq-reads
 
 -- src/span.rt:67:8
 float-eq-requires : tie.Need-float-eq-requires

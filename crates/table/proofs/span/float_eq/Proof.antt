@@ -1,11 +1,8 @@
 use mathlib.Core.Path.{sym, refl}
 use Rattle.table.specs.Span.{floatEq}
 use Rattle.table.proofs.SpanLaws.{nan-left, nan-right, nan-bits, no-nan}
-use borrow.Author.Needs.{needs}
 use Rattle.table.proofs.span.float_eq.Statement.{statement}
 use Rattle.table.proofs.span.float_eq.Tie as tie
-use Rattle.table.proofs.span.float_eq.Reads as reads
-use Rattle.table.proofs.span.float_eq.Lts as lts
 
 -- src/span.rt:56:9
 returns : tie.Need-returns

@@ -1,11 +1,8 @@
-use mathlib.Core.Path.{_≡_, refl, sym, _∙_}
+use mathlib.Core.Path.{refl, sym, _∙_}
 use Rattle.table.specs.Baseline.{judged}
 use borrow.Author.Needs.{needs}
 use Rattle.table.proofs.span.judge.Statement.{statement}
 use Rattle.table.proofs.span.judge.Tie as tie
-use Rattle.table.proofs.span.judge.Reads as reads
-use Rattle.table.proofs.span.judge.Lts as lts
-use Rattle.table.proofs.span.both_eq.Reads as both-eq-reads
 
 -- src/span.rt:78:26
 enum-known-j : tie.Need-enum-known-j

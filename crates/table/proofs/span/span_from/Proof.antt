@@ -1,9 +1,7 @@
-use mathlib.Core.Path.{_≡_, refl}
+use mathlib.Core.Path.{refl}
 use borrow.Author.Needs.{needs}
 use Rattle.table.proofs.span.span_from.Statement.{statement}
 use Rattle.table.proofs.span.span_from.Tie as tie
-use Rattle.table.proofs.span.span_from.Reads as reads
-use Rattle.table.proofs.span.span_from.Lts as lts
 
 -- src/span.rt:31:21
 enum-known-low : tie.Need-enum-known-low

@@ -1,11 +1,7 @@
-use mathlib.Core.Path.{_≡_, refl, sym, ap, _∙_}
+use mathlib.Core.Path.{sym}
 use borrow.Author.Needs.{needs}
 use Rattle.table.proofs.span.span_of.Statement.{statement}
 use Rattle.table.proofs.span.span_of.Tie as tie
-use Rattle.table.proofs.span.span_of.Reads as reads
-use Rattle.table.proofs.span.span_of.Lts as lts
-use Rattle.table.proofs.entry.metadata_value.Reads as metadata-value-reads
-use Rattle.table.proofs.span.span_from.Reads as span-from-reads
 
 -- src/span.rt:46:36
 slice-aggregate-metadata-value : tie.Need-slice-aggregate-metadata-value

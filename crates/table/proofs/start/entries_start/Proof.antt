@@ -1,15 +1,10 @@
-use mathlib.Core.Path.{_≡_, refl, sym, ap, _∙_}
+use mathlib.Core.Path.{refl, sym, ap, _∙_}
 use Rattle.table.specs.Answer.{headerParsed, readingParsed}
-use Rattle.table.specs.Start.{startOf}
 use Rattle.table.proofs.ReadLaws.{refused-is, headless, accepted}
 use Rattle.table.proofs.StartLaws.{start-is}
 use borrow.Author.Needs.{needs}
 use Rattle.table.proofs.start.entries_start.Statement.{statement}
 use Rattle.table.proofs.start.entries_start.Tie as tie
-use Rattle.table.proofs.start.entries_start.Reads as reads
-use Rattle.table.proofs.start.entries_start.Lts as lts
-use Rattle.table.proofs.header.header_at.Reads as header-at-reads
-use Rattle.table.proofs.read.from_bytes.Reads as from-bytes-reads
 
 -- src/start.rt:19:11
 from-bytes-requires : tie.Need-from-bytes-requires

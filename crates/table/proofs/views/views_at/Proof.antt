@@ -1,4 +1,4 @@
-use Prim.Native.Nat.{_≤_, _-_, _%_, _<_}
+use Prim.Native.Nat.{_≤_, _-_}
 use mathlib.Core.Path.{_≡_, refl, sym, ap, _∙_}
 use mathlib.Core.List.{_++_}
 use native.Mathlib.Omega.{arith}
@@ -18,14 +18,6 @@ use Rattle.table.proofs.ViewsLaws.{views-again, views-lack, views-end}
 use borrow.Author.Needs.{needs}
 use Rattle.table.proofs.views.views_at.Statement.{statement}
 use Rattle.table.proofs.views.views_at.Tie as tie
-use Rattle.table.proofs.views.views_at.Reads as reads
-use Rattle.table.proofs.views.views_at.Lts as lts
-use Rattle.table.proofs.entry.entry_at.Reads as entry-at-reads
-use Rattle.table.proofs.read.conclude.Reads as conclude-reads
-use Rattle.table.proofs.span.judge.Reads as judge-reads
-use Rattle.table.proofs.span.span_of.Reads as span-of-reads
-use Rattle.table.proofs.views.no_view.Reads as no-view-reads
-use Rattle.table.proofs.views.no_views.Reads as no-views-reads
 
 abbrev Inv-loop : tie.InvT-loop
 Inv-loop s n views₀ d₀ i₀ j₀ views d i j =

@@ -1,15 +1,10 @@
-use mathlib.Core.Path.{_≡_, refl, sym, ap, _∙_}
+use mathlib.Core.Path.{refl, sym, ap, _∙_}
 use Rattle.table.specs.Answer.{headerParsed, counts}
 use Rattle.table.proofs.ReadLaws.{read-long, read-no, read-go}
 use Rattle.table.proofs.ViewsLaws.{views-stand, no-views-stand}
 use borrow.Author.Needs.{needs}
 use Rattle.table.proofs.views.views_of.Statement.{statement}
 use Rattle.table.proofs.views.views_of.Tie as tie
-use Rattle.table.proofs.views.views_of.Reads as reads
-use Rattle.table.proofs.views.views_of.Lts as lts
-use Rattle.table.proofs.header.header_at.Reads as header-at-reads
-use Rattle.table.proofs.views.no_views.Reads as no-views-reads
-use Rattle.table.proofs.views.views_at.Reads as views-at-reads
 
 -- src/views.rt:93:9
 no-views-requires : tie.Need-no-views-requires

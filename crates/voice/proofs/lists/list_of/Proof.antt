@@ -1,5 +1,5 @@
 -- `list_of` meets its contract.
-use mathlib.Core.Path.{_≡_, refl, sym, _∙_}
+use mathlib.Core.Path.{_≡_, refl, sym}
 use mathlib.Core.List.{_++_}
 use Prim.Native.Nat.{ℕ, _-_, _+_, _*_, _≤_}
 use native.Mathlib.Omega.{arith}
@@ -23,8 +23,8 @@ unfolding listAt upTo ofBits div
 returns c =
     let b2 = c .before .before in
     let f : ℕ → Float = λ i. getD (b2 .args .lists .now) (b2 .args .n * 16 + i) nan in
-      let s : length (b2 .args .lists .now) ≡ 160 = search needs in
-      sym (upTo-as f (λ i. nan) 16 (λ i l. List·getD-eq-default (b2 .args .lists .now) nan (omega (arith, c .if1 .taken, s))))
+    let s : length (b2 .args .lists .now) ≡ 160 = search needs in
+    sym (upTo-as f (λ i. nan) 16 (λ i l. List·getD-eq-default (b2 .args .lists .now) nan (omega (arith, c .if1 .taken, s))))
 
 mul-from : tie.Need-mul-from Inv-loop μ-loop
 mul-from c = search needs

@@ -1,5 +1,4 @@
 -- `frequencies_ok` meets its contract.
-use mathlib.Core.Bool.{_||_}
 use borrow.Author.Tests.{eq-eqb, ne-eqb}
 use borrow.Author.Needs.{needs}
 use Rattle.voice.proofs.question.frequencies_ok.Statement.{statement}

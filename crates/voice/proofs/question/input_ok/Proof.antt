@@ -1,9 +1,7 @@
 -- `input_ok` meets its contract.
 use native.Mathlib.Omega.{arith}
-use mathlib.Core.Bool.{_||_}
 use borrow.Author.Tests.{le-leb, lt-leb, eq-eqb, ne-eqb}
 use Rattle.voice.proofs.Loops.{small-product}
-use borrow.Author.Needs.{needs}
 use Rattle.voice.proofs.question.input_ok.Statement.{statement}
 use Rattle.voice.proofs.question.input_ok.Tie as tie
 

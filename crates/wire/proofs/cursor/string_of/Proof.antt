@@ -1,12 +1,9 @@
-use mathlib.Core.Path.{_≡_, sym, ap, _∙_}
+use mathlib.Core.Path.{sym}
 use Rattle.wire.specs.Cursor.{stringOf}
-use Rattle.wire.proofs.Laws.{room, past, lacking, string-good, string-bad}
+use Rattle.wire.proofs.Laws.{past, lacking, string-good, string-bad}
 use borrow.Author.Needs.{needs}
 use Rattle.wire.proofs.cursor.string_of.Statement.{statement}
 use Rattle.wire.proofs.cursor.string_of.Tie as tie
-use Rattle.wire.proofs.cursor.string_of.Reads as reads
-use Rattle.wire.proofs.cursor.string_of.Lts as lts
-use Rattle.wire.proofs.utf8.from_utf8.Reads as from-utf8-reads
 
 -- src/cursor.rt:121:9
 returns : tie.Need-returns

@@ -1,5 +1,3 @@
-use Prim.Native.Nat.{ℕ, _≤_, _<_}
-use mathlib.Core.Path.{_≡_}
 use native.Mathlib.Omega.{arith}
 use borrow.Author.Tests.{le-leb, lt-leb}
 use Rattle.wire.specs.Utf8.{lead}
@@ -7,9 +5,6 @@ use Rattle.wire.specs.Utf8State.{restOf}
 use borrow.Author.Needs.{needs}
 use Rattle.wire.proofs.utf8.lead_byte.Statement.{statement}
 use Rattle.wire.proofs.utf8.lead_byte.Tie as tie
-use Rattle.wire.proofs.utf8.lead_byte.Reads as reads
-use Rattle.wire.proofs.utf8.lead_byte.Lts as lts
-use Rattle.wire.proofs.utf8.then_rest.Reads as then-rest-reads
 
 -- src/utf8.rt:31:9
 then-rest-requires : tie.Need-then-rest-requires

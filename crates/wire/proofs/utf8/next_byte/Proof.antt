@@ -1,14 +1,8 @@
-use mathlib.Core.Path.{_≡_, refl, ap, sym, _∙_}
-use native.Mathlib.Omega.{arith}
-use borrow.Author.Tests.{le-leb, lt-leb}
+use mathlib.Core.Path.{sym, _∙_}
 use Rattle.wire.proofs.Laws.{octet-lead, octet-low, octet-high, octet-in}
 use borrow.Author.Needs.{needs}
 use Rattle.wire.proofs.utf8.next_byte.Statement.{statement}
 use Rattle.wire.proofs.utf8.next_byte.Tie as tie
-use Rattle.wire.proofs.utf8.next_byte.Reads as reads
-use Rattle.wire.proofs.utf8.next_byte.Lts as lts
-use Rattle.wire.proofs.utf8.lead_byte.Reads as lead-byte-reads
-use Rattle.wire.proofs.utf8.then_rest.Reads as then-rest-reads
 
 -- src/utf8.rt:68:9
 lead-byte-requires : tie.Need-lead-byte-requires

@@ -1,9 +1,9 @@
-use mathlib.Core.Path.{_≡_, refl, sym, _∙_}
+use mathlib.Core.Path.{_≡_, refl}
 use native.Mathlib.Omega.{arith}
-use Prim.Native.Nat.{_-_, _≤_, _<_}
+use Prim.Native.Nat.{_-_, _≤_}
 use lib.ListN.{length, getD, length-set}
 use Rattle.voice.specs.Voice.{memoryAt}
-use Rattle.player.specs.Columns.{Memories}
+use Rattle.player.specs.inner.Columns.{Memories}
 use Rattle.player.proofs.ColumnLaws.{memories-again, memories-full}
 -- `gather_memories` meets its contract.
 use borrow.Author.Needs.{needs}

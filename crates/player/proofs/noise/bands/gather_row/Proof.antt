@@ -1,5 +1,5 @@
-use mathlib.Core.Path.{_≡_, refl, _∙_}
-use Prim.Native.Nat.{ℕ, _+_, _-_, _*_, _≤_, _<_}
+use mathlib.Core.Path.{_≡_}
+use Prim.Native.Nat.{ℕ, _+_, _-_, _*_, _≤_}
 use native.Mathlib.Omega.{arith}
 use lib.ListN.{length, getD, length-set}
 use lib.Ieee.{Float, nan}
@@ -89,18 +89,18 @@ loop-again c =
     let b4 = b3 .before in
     let b6 = b4 .before .before in
     let f : ℕ → ℕ → Float = λ q l. getD (b6 .args .lists .now) (64 + getD (b6 .args .live .now) l 0 * 5 + q) nan in (
-        omega (arith, b3 .loop-test .taken),
-        simp length-set (b4 .loop .inv .1),
-        rows-keep f (b4 .loop .places) (b6 .args .q) (b6 .args .n) (b4 .loop .l) _ (omega (arith, b6 .pre .1)) (b4 .loop .inv .2),
-        row-again f (b4 .loop .places) (b6 .args .q) (b4 .loop .l) _ (omega (arith, b3 .loop-test .taken, b6 .pre .0, b6 .pre .1, b4 .loop .inv .1)) (rw (b1 .band-of .ensures)) (b4 .loop .inv .3),
-      )
+      omega (arith, b3 .loop-test .taken),
+      simp length-set (b4 .loop .inv .1),
+      rows-keep f (b4 .loop .places) (b6 .args .q) (b6 .args .n) (b4 .loop .l) _ (omega (arith, b6 .pre .1)) (b4 .loop .inv .2),
+      row-again f (b4 .loop .places) (b6 .args .q) (b4 .loop .l) _ (omega (arith, b3 .loop-test .taken, b6 .pre .0, b6 .pre .1, b4 .loop .inv .1)) (rw (b1 .band-of .ensures)) (b4 .loop .inv .3),
+    )
 
 returns : tie.Need-returns Inv-loop μ-loop
 returns c =
     let b1 = c .before in
     let b3 = b1 .before .before in
     let f : ℕ → ℕ → Float = λ q l. getD (b3 .args .lists .now) (64 + getD (b3 .args .live .now) l 0 * 5 + q) nan in
-      rows-again f (b1 .loop .places) (b3 .args .q) (b3 .args .n) (b1 .loop .l) (omega arith) (b1 .loop .inv .2) (b1 .loop .inv .3)
+    rows-again f (b1 .loop .places) (b3 .args .q) (b3 .args .n) (b1 .loop .l) (omega arith) (b1 .loop .inv .2) (b1 .loop .inv .3)
 
 pub gather-row-spec : {M : Type 1} → statement M
 gather-row-spec =

@@ -1,10 +1,10 @@
-use mathlib.Core.Path.{_≡_, refl, ap, _∙_}
+use mathlib.Core.Path.{_≡_, refl}
 use native.Mathlib.Omega.{arith}
-use Prim.Native.Nat.{_-_, _≤_, _<_}
+use Prim.Native.Nat.{_-_, _≤_}
 use lib.ListN.{length, getD, length-set}
 use Rattle.voice.specs.Lists.{steps}
 use Rattle.voice.specs.Voice.{withMemory}
-use Rattle.player.specs.Columns.{stateOfColumns, scattered}
+use Rattle.player.specs.inner.Columns.{stateOfColumns, scattered}
 use Rattle.voice.proofs.Loops.{steps-again, steps-full}
 -- `scatter_memories` meets its contract.
 use borrow.Author.Needs.{needs}

@@ -4,7 +4,7 @@ use Prim.Native.Nat.{_-_, _≤_}
 use native.Mathlib.Omega.{arith}
 use lib.ListN.{length, length-set}
 use Rattle.filters.specs.Biquad.{tickOf}
-use Rattle.player.specs.Columns.{Ticked, stateOfColumns, coeffsOfRows}
+use Rattle.player.specs.inner.Columns.{Ticked, stateOfColumns, coeffsOfRows}
 use Rattle.filters.specs.declared.biquad.BiquadState.{BiquadState}
 use Rattle.player.proofs.ColumnLaws.{Kept, kept-all, kept-again, state-kept, ticked-again, ticked-full}
 use borrow.Author.Needs.{needs}

@@ -1,6 +1,6 @@
 -- `noise_row` meets its contract.
 use mathlib.Core.Path.{_≡_, _∙_}
-use Prim.Native.Nat.{ℕ, _-_, _≤_, _<_}
+use Prim.Native.Nat.{ℕ, _-_, _≤_}
 use native.Mathlib.Omega.{arith}
 use lib.ListN.{length, getD, length-set}
 use lib.Ieee.{Float}
@@ -120,11 +120,11 @@ loop-again c =
     let b8 = b7 .before in
     let b10 = b8 .before .before in
     let f : ℕ → ℕ → Float = λ q l. noiseRow (b10 .args .noise .now) (b10 .args .s) q (getD (b10 .args .live .now) l 0) in (
-        omega (arith, b7 .loop-test .taken),
-        simp length-set (b8 .loop .inv .1),
-        rows-keep f (b8 .loop .places) (b10 .args .q) (b10 .args .n) (b8 .loop .l) _ (omega (arith, b10 .pre .2)) (b8 .loop .inv .2),
-        row-again f (b8 .loop .places) (b10 .args .q) (b8 .loop .l) _ (omega (arith, b7 .loop-test .taken, b10 .pre .2, b10 .pre .1, b8 .loop .inv .1)) (c .lerp .ensures ∙ rw (b5 .band-of .ensures)) (b8 .loop .inv .3),
-      )
+      omega (arith, b7 .loop-test .taken),
+      simp length-set (b8 .loop .inv .1),
+      rows-keep f (b8 .loop .places) (b10 .args .q) (b10 .args .n) (b8 .loop .l) _ (omega (arith, b10 .pre .2)) (b8 .loop .inv .2),
+      row-again f (b8 .loop .places) (b10 .args .q) (b8 .loop .l) _ (omega (arith, b7 .loop-test .taken, b10 .pre .2, b10 .pre .1, b8 .loop .inv .1)) (c .lerp .ensures ∙ rw (b5 .band-of .ensures)) (b8 .loop .inv .3),
+    )
 
 returns : tie.Need-returns Inv-loop μ-loop
 returns c =

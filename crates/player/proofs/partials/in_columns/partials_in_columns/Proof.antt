@@ -1,13 +1,12 @@
-use mathlib.Core.Path.{_≡_, refl, sym, ap, _∙_, subst}
+use mathlib.Core.Path.{_≡_, refl, sym, _∙_, subst}
 use mathlib.Core.List.{List, _++_}
-use mathlib.Core.Bool.{true}
-use Prim.Native.Nat.{ℕ, _-_, _+_, _≤_, _<_}
+use Prim.Native.Nat.{ℕ, _-_, _≤_}
 use native.Mathlib.Omega.{arith}
-use lib.ListN.{length, drop, getD, length-set}
-use lib.Ieee.{Float, nan}
+use lib.ListN.{length, drop, length-set}
+use lib.Ieee.{Float}
 use Rattle.float.specs.Range.{Within}
 use Rattle.voice.specs.Input.{frequencyOf, gainsOf, cleaned}
-use Rattle.player.specs.Passes.{partialsVoice, phasesAt, partialsOut}
+use Rattle.player.specs.inner.Passes.{partialsVoice, partialsOut}
 use Rattle.voice.specs.declared.voice.Voice.{Voice}
 use Rattle.player.proofs.RangeLaws.{hold}
 use Rattle.player.proofs.SoundLaws.{ConstantsOf, cleaned-within, inverse-small}
@@ -81,11 +80,11 @@ tune-requires c κs =
     let b16 = b15 .before in
     let b23 = b16 .before .before .before .before .before .before .before in
     let v = voice b23 in
-      let f0 = b8 .frequency-at .result in
-      let W = within b23 (b10 .loop .i) f0 (b8 .frequency-at .ensures) in
-      let X : ConstantsOf v (b12 .constants-of .result) = b12 .constants-of .ensures in
-      let F = b23 .pre .0 in
-      ((b23 .pre .2, F .sizes .0, rw (b16 .list-of .ensures) (F .pitches-ok), rw (b15 .list-of2 .ensures) (F .stretches-ok), W), ((rw (X .2) (F .sizes .1), rw (X .1) (F .sizes .2), subst (λ (z : Float). Within 1 4096 z) (sym (X .3)) (inverse-small (b23 .args .set) (b23 .args .lists .now) F)), λ e. of-tuned v (b16 .list-of .result) (b15 .list-of2 .result) (b14 .list-of3 .result) (b16 .list-of .ensures) (b15 .list-of2 .ensures) (b14 .list-of3 .ensures) (b12 .constants-of .result) f0 _ _ _ (b10 .loop .t) (b10 .loop .inv .3 .tuned f0 (hold _ (b8 .frequency-at .ok)) W e)))
+    let f0 = b8 .frequency-at .result in
+    let W = within b23 (b10 .loop .i) f0 (b8 .frequency-at .ensures) in
+    let X : ConstantsOf v (b12 .constants-of .result) = b12 .constants-of .ensures in
+    let F = b23 .pre .0 in
+    ((b23 .pre .2, F .sizes .0, rw (b16 .list-of .ensures) (F .pitches-ok), rw (b15 .list-of2 .ensures) (F .stretches-ok), W), ((rw (X .2) (F .sizes .1), rw (X .1) (F .sizes .2), subst (λ (z : Float). Within 1 4096 z) (sym (X .3)) (inverse-small (b23 .args .set) (b23 .args .lists .now) F)), λ e. of-tuned v (b16 .list-of .result) (b15 .list-of2 .result) (b14 .list-of3 .result) (b16 .list-of .ensures) (b15 .list-of2 .ensures) (b14 .list-of3 .ensures) (b12 .constants-of .result) f0 _ _ _ (b10 .loop .t) (b10 .loop .inv .3 .tuned f0 (hold _ (b8 .frequency-at .ok)) W e)))
 
 move-phases-requires : tie.Need-move-phases-requires Inv-loop μ-loop
 move-phases-requires c κs =
@@ -98,9 +97,9 @@ move-phases-requires c κs =
     let b19 = b18 .before in
     let b26 = b19 .before .before .before .before .before .before .before in
     let v = voice b26 in
-      let U = tuned-of v (b19 .list-of .result) (b18 .list-of2 .result) (b17 .list-of3 .result) (b19 .list-of .ensures) (b18 .list-of2 .ensures) (b17 .list-of3 .ensures) (b15 .constants-of .result) (b11 .frequency-at .result) _ _ _ (b2 .tune .result) (b2 .tune .ensures) in
-      let H = tuned-voice v (b15 .constants-of .result) (b15 .constants-of .ensures) _ _ _ (b2 .tune .result) (b11 .frequency-at .result) U in
-      (b26 .pre .0 .sizes .1, b13 .loop .inv .3 .ok, H .safe, λ e. sym (H .small) ∙ e)
+    let U = tuned-of v (b19 .list-of .result) (b18 .list-of2 .result) (b17 .list-of3 .result) (b19 .list-of .ensures) (b18 .list-of2 .ensures) (b17 .list-of3 .ensures) (b15 .constants-of .result) (b11 .frequency-at .result) _ _ _ (b2 .tune .result) (b2 .tune .ensures) in
+    let H = tuned-voice v (b15 .constants-of .result) (b15 .constants-of .ensures) _ _ _ (b2 .tune .result) (b11 .frequency-at .result) U in
+    (b26 .pre .0 .sizes .1, b13 .loop .inv .3 .ok, H .safe, λ e. sym (H .small) ∙ e)
 
 sines-of-requires : tie.Need-sines-of-requires Inv-loop μ-loop
 sines-of-requires c κs =
@@ -115,9 +114,9 @@ sines-of-requires c κs =
     let b26 = b25 .before in
     let b33 = b26 .before .before .before .before .before .before .before in
     let v = voice b33 in
-      let U = tuned-of v (b26 .list-of .result) (b25 .list-of2 .result) (b24 .list-of3 .result) (b26 .list-of .ensures) (b25 .list-of2 .ensures) (b24 .list-of3 .ensures) (b22 .constants-of .result) (b18 .frequency-at .result) _ _ _ (b9 .tune .result) (b9 .tune .ensures) in
-      let H = tuned-voice v (b22 .constants-of .result) (b22 .constants-of .ensures) _ _ _ (b9 .tune .result) (b18 .frequency-at .result) U in
-      (b23 .waves .ensures, b33 .pre .0 .sizes .1, all-phases v (b18 .frequency-at .result) _ _ _ (b9 .tune .result) H (b20 .loop .phases) _ (b20 .loop .inv .3 .ok) (b6 .move-phases .ensures))
+    let U = tuned-of v (b26 .list-of .result) (b25 .list-of2 .result) (b24 .list-of3 .result) (b26 .list-of .ensures) (b25 .list-of2 .ensures) (b24 .list-of3 .ensures) (b22 .constants-of .result) (b18 .frequency-at .result) _ _ _ (b9 .tune .result) (b9 .tune .ensures) in
+    let H = tuned-voice v (b22 .constants-of .result) (b22 .constants-of .ensures) _ _ _ (b9 .tune .result) (b18 .frequency-at .result) U in
+    (b23 .waves .ensures, b33 .pre .0 .sizes .1, all-phases v (b18 .frequency-at .result) _ _ _ (b9 .tune .result) H (b20 .loop .phases) _ (b20 .loop .inv .3 .ok) (b6 .move-phases .ensures))
 
 partial-sum-requires : tie.Need-partial-sum-requires Inv-loop μ-loop
 partial-sum-requires c κs =
@@ -164,16 +163,16 @@ loop-again c =
     let b34 = b33 .before in
     let b41 = b34 .before .before .before .before .before .before .before in
     let v = voice b41 in
-      let x = b30 .constants-of .result in
-      let f0 = b26 .frequency-at .result in
-      let W = within b41 (b28 .loop .i) f0 (b26 .frequency-at .ensures) in
-      let U = tuned-of v (b34 .list-of .result) (b33 .list-of2 .result) (b32 .list-of3 .result) (b34 .list-of .ensures) (b33 .list-of2 .ensures) (b32 .list-of3 .ensures) x f0 _ _ _ (b17 .tune .result) (b17 .tune .ensures) in
-      let y = sounds v x (b30 .constants-of .ensures) (freq-of b41) (gains-of b41) (b28 .loop .i) (b28 .loop .phases) (b28 .loop .incs) (b28 .loop .fades) (b28 .loop .rows) (b28 .loop .t) (b28 .loop .inv .3) f0 (b26 .frequency-at .ensures) (hold _ (b26 .frequency-at .ok)) W _ _ _ (b17 .tune .result) U _ (b14 .move-phases .ensures) _ _ (c .partial-sum .result) (b25 .gains-at .ensures) (b7 .sines-of .ensures) (c .partial-sum .ensures) in (
-        omega (arith, b27 .loop-test .taken, b28 .loop .inv .1),
-        simp length-set (b28 .loop .inv .1),
-        tones-again v (freq-of b41) (gains-of b41) (b28 .loop .i) (b41 .args .out .now) (b28 .loop .out) (c .partial-sum .result) (omega (arith, b27 .loop-test .taken, b28 .loop .inv .1)) (b28 .loop .inv .2) y,
-        toning-again v x (b30 .constants-of .ensures) (freq-of b41) (gains-of b41) (b28 .loop .i) (b28 .loop .phases) (b28 .loop .incs) (b28 .loop .fades) (b28 .loop .rows) (b28 .loop .t) (b28 .loop .inv .3) f0 (b26 .frequency-at .ensures) (hold _ (b26 .frequency-at .ok)) W _ _ _ (b17 .tune .result) U _ (b14 .move-phases .ensures),
-      )
+    let x = b30 .constants-of .result in
+    let f0 = b26 .frequency-at .result in
+    let W = within b41 (b28 .loop .i) f0 (b26 .frequency-at .ensures) in
+    let U = tuned-of v (b34 .list-of .result) (b33 .list-of2 .result) (b32 .list-of3 .result) (b34 .list-of .ensures) (b33 .list-of2 .ensures) (b32 .list-of3 .ensures) x f0 _ _ _ (b17 .tune .result) (b17 .tune .ensures) in
+    let y = sounds v x (b30 .constants-of .ensures) (freq-of b41) (gains-of b41) (b28 .loop .i) (b28 .loop .phases) (b28 .loop .incs) (b28 .loop .fades) (b28 .loop .rows) (b28 .loop .t) (b28 .loop .inv .3) f0 (b26 .frequency-at .ensures) (hold _ (b26 .frequency-at .ok)) W _ _ _ (b17 .tune .result) U _ (b14 .move-phases .ensures) _ _ (c .partial-sum .result) (b25 .gains-at .ensures) (b7 .sines-of .ensures) (c .partial-sum .ensures) in (
+      omega (arith, b27 .loop-test .taken, b28 .loop .inv .1),
+      simp length-set (b28 .loop .inv .1),
+      tones-again v (freq-of b41) (gains-of b41) (b28 .loop .i) (b41 .args .out .now) (b28 .loop .out) (c .partial-sum .result) (omega (arith, b27 .loop-test .taken, b28 .loop .inv .1)) (b28 .loop .inv .2) y,
+      toning-again v x (b30 .constants-of .ensures) (freq-of b41) (gains-of b41) (b28 .loop .i) (b28 .loop .phases) (b28 .loop .incs) (b28 .loop .fades) (b28 .loop .rows) (b28 .loop .t) (b28 .loop .inv .3) f0 (b26 .frequency-at .ensures) (hold _ (b26 .frequency-at .ok)) W _ _ _ (b17 .tune .result) U _ (b14 .move-phases .ensures),
+    )
 
 same-length : tie.Need-same-length Inv-loop μ-loop
 same-length c =

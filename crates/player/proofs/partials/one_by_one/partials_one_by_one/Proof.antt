@@ -1,16 +1,16 @@
-use mathlib.Core.Path.{_≡_, refl, sym, ap, _∙_, subst}
+use mathlib.Core.Path.{_≡_, refl, sym, subst}
 use mathlib.Core.List.{List, _++_}
 use mathlib.Core.Bool.{true}
-use Prim.Native.Nat.{ℕ, _-_, _+_, _≤_, _<_}
+use Prim.Native.Nat.{ℕ, _-_, _≤_}
 use native.Mathlib.Omega.{arith}
-use lib.ListN.{length, drop, getD, length-set}
+use lib.ListN.{length, drop, length-set}
 use lib.Dec.{T}
-use lib.Ieee.{Float, nan, binary32, eq, fits}
+use lib.Ieee.{Float, binary32, eq, fits}
 use Rattle.float.specs.Range.{Within}
 use Rattle.voice.specs.Input.{frequencyOf, gainsOf, cleaned}
 use Rattle.voice.specs.Voice.{listAt, phasesOk}
-use Rattle.player.specs.Passes.{partialsVoice, phasesAt, partialsOut}
-use Rattle.player.specs.Tuning.{PitchAt}
+use Rattle.player.specs.inner.Passes.{partialsVoice, phasesAt, partialsOut}
+use Rattle.player.specs.inner.Tuning.{PitchAt}
 use Rattle.voice.specs.declared.voice.Voice.{Voice}
 use Rattle.player.proofs.RangeLaws.{hold}
 use Rattle.player.proofs.SoundLaws.{ConstantsOf, cleaned-within, inverse-small}
@@ -82,10 +82,10 @@ pitch-kept-requires c κs =
     let b12 = b11 .before in
     let b19 = b12 .before .before .before .before .before .before .before in
     let v = voice b19 in
-      let f0 = b4 .frequency-at .result in
-      let W = within b19 (b6 .loop .i) f0 (b4 .frequency-at .ensures) in
-      let F = b19 .pre .0 in
-      ((b19 .pre .2, F .sizes .0, rw (b12 .list-of .ensures) (F .pitches-ok), rw (b11 .list-of2 .ensures) (F .stretches-ok), W), λ e. of-pitched v (b12 .list-of .result) (b11 .list-of2 .result) (b10 .list-of3 .result) (b12 .list-of .ensures) (b11 .list-of2 .ensures) (b10 .list-of3 .ensures) f0 (b6 .loop .p) (b6 .loop .inv .5 f0 (hold _ (b4 .frequency-at .ok)) W e))
+    let f0 = b4 .frequency-at .result in
+    let W = within b19 (b6 .loop .i) f0 (b4 .frequency-at .ensures) in
+    let F = b19 .pre .0 in
+    ((b19 .pre .2, F .sizes .0, rw (b12 .list-of .ensures) (F .pitches-ok), rw (b11 .list-of2 .ensures) (F .stretches-ok), W), λ e. of-pitched v (b12 .list-of .result) (b11 .list-of2 .result) (b10 .list-of3 .result) (b12 .list-of .ensures) (b11 .list-of2 .ensures) (b10 .list-of3 .ensures) f0 (b6 .loop .p) (b6 .loop .inv .5 f0 (hold _ (b4 .frequency-at .ok)) W e))
 
 sample-of-requires : tie.Need-sample-of-requires Inv-loop μ-loop
 sample-of-requires c κs =
@@ -96,11 +96,11 @@ sample-of-requires c κs =
     let b13 = b12 .before in
     let b23 = b13 .before .before .before .before .before .before .before .before .before .before in
     let v = voice b23 in
-      let W = within b23 (b10 .loop .i) (b8 .frequency-at .result) (b8 .frequency-at .ensures) in
-      let X : ConstantsOf v (b12 .constants-of .result) = b12 .constants-of .ensures in
-      let F = b23 .pre .0 in
-      let P = b3 .pitch-kept .ensures in
-      ((b13 .table .ensures, P .inside, rw (X .1) (F .sizes .2), rw (X .2) (F .sizes .1), rw (X .2) (b10 .loop .inv .4)), (subst (λ (z : Float). Within 20000 1 z) (sym (P .at)) W, P .small, subst (λ (z : Float). Within 1 4096 z) (sym (X .3)) (inverse-small (b23 .args .set) (b23 .args .lists .now) F)))
+    let W = within b23 (b10 .loop .i) (b8 .frequency-at .result) (b8 .frequency-at .ensures) in
+    let X : ConstantsOf v (b12 .constants-of .result) = b12 .constants-of .ensures in
+    let F = b23 .pre .0 in
+    let P = b3 .pitch-kept .ensures in
+    ((b13 .table .ensures, P .inside, rw (X .1) (F .sizes .2), rw (X .2) (F .sizes .1), rw (X .2) (b10 .loop .inv .4)), (subst (λ (z : Float). Within 20000 1 z) (sym (P .at)) W, P .small, subst (λ (z : Float). Within 1 4096 z) (sym (X .3)) (inverse-small (b23 .args .set) (b23 .args .lists .now) F)))
 
 mul-out : tie.Need-mul-out Inv-loop μ-loop
 mul-out c =
@@ -140,21 +140,21 @@ loop-again c =
     let b17 = b16 .before in
     let b24 = b17 .before .before .before .before .before .before .before in
     let v = voice b24 in
-      let f0 = b9 .frequency-at .result in
-      let W = within b24 (b11 .loop .i) f0 (b9 .frequency-at .ensures) in
-      let x = b13 .constants-of .result in
-      let p = b4 .pitch-kept .result in
-      let X = b13 .constants-of .ensures in
-      let K = pitched-of v (b17 .list-of .result) (b16 .list-of2 .result) (b15 .list-of3 .result) (b17 .list-of .ensures) (b16 .list-of2 .ensures) (b15 .list-of3 .ensures) f0 p (b4 .pitch-kept .ensures) in
-      let P = pitch-of v p f0 K in
-      let y = few-sounds v f0 x p X P (freq-of b24) (gains-of b24) (b11 .loop .i) (b8 .gains-for .result) (b11 .loop .phases) (c .sample-of .result) (b9 .frequency-at .ensures) (b8 .gains-for .ensures) (b11 .loop .inv .3) (tone-is v f0 x p X P (b8 .gains-for .result) (b11 .loop .phases) (c .sample-of .result) (c .sample-of .ensures .0)) in (
-        omega (arith, b10 .loop-test .taken, b11 .loop .inv .1),
-        simp length-set (b11 .loop .inv .1),
-        tones-again v (freq-of b24) (gains-of b24) (b11 .loop .i) (b24 .args .out .now) (b11 .loop .out) (c .sample-of .result) (omega (arith, b10 .loop-test .taken, b11 .loop .inv .1)) (b11 .loop .inv .2) y,
-        phases-again v (freq-of b24) (b11 .loop .i) (b11 .loop .phases) _ f0 (b11 .loop .inv .3) (b9 .frequency-at .ensures) (phases-is v f0 x p X P (b11 .loop .phases) _ (c .sample-of .ensures .1)),
-        phases-keep v f0 x p X P (b11 .loop .phases) _ (b24 .pre .0) W (K .small) (c .sample-of .ensures .1) (b11 .loop .inv .4),
-        pitch-stays v p f0 (hold _ (b9 .frequency-at .ok)) W K,
-      )
+    let f0 = b9 .frequency-at .result in
+    let W = within b24 (b11 .loop .i) f0 (b9 .frequency-at .ensures) in
+    let x = b13 .constants-of .result in
+    let p = b4 .pitch-kept .result in
+    let X = b13 .constants-of .ensures in
+    let K = pitched-of v (b17 .list-of .result) (b16 .list-of2 .result) (b15 .list-of3 .result) (b17 .list-of .ensures) (b16 .list-of2 .ensures) (b15 .list-of3 .ensures) f0 p (b4 .pitch-kept .ensures) in
+    let P = pitch-of v p f0 K in
+    let y = few-sounds v f0 x p X P (freq-of b24) (gains-of b24) (b11 .loop .i) (b8 .gains-for .result) (b11 .loop .phases) (c .sample-of .result) (b9 .frequency-at .ensures) (b8 .gains-for .ensures) (b11 .loop .inv .3) (tone-is v f0 x p X P (b8 .gains-for .result) (b11 .loop .phases) (c .sample-of .result) (c .sample-of .ensures .0)) in (
+      omega (arith, b10 .loop-test .taken, b11 .loop .inv .1),
+      simp length-set (b11 .loop .inv .1),
+      tones-again v (freq-of b24) (gains-of b24) (b11 .loop .i) (b24 .args .out .now) (b11 .loop .out) (c .sample-of .result) (omega (arith, b10 .loop-test .taken, b11 .loop .inv .1)) (b11 .loop .inv .2) y,
+      phases-again v (freq-of b24) (b11 .loop .i) (b11 .loop .phases) _ f0 (b11 .loop .inv .3) (b9 .frequency-at .ensures) (phases-is v f0 x p X P (b11 .loop .phases) _ (c .sample-of .ensures .1)),
+      phases-keep v f0 x p X P (b11 .loop .phases) _ (b24 .pre .0) W (K .small) (c .sample-of .ensures .1) (b11 .loop .inv .4),
+      pitch-stays v p f0 (hold _ (b9 .frequency-at .ok)) W K,
+    )
 
 same-length : tie.Need-same-length Inv-loop μ-loop
 same-length c =

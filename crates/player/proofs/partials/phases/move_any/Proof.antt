@@ -1,15 +1,12 @@
-use mathlib.Core.List.{List}
 use lib.ListN.{set}
 -- `move_any` meets its contract.
-use mathlib.Core.Path.{_≡_, refl, sym, ap, _∙_}
-use Prim.Native.Nat.{ℕ, _+_, _-_, _*_, _≤_, _<_}
+use mathlib.Core.Path.{_≡_, refl, ap, _∙_}
+use Prim.Native.Nat.{_-_, _≤_}
 use native.Mathlib.Omega.{arith}
-use lib.ListN.{length, getD, length-set}
-use lib.Ieee.{Float, nan, binary32, ofBits}
-use Rattle.float.specs.F32.{_⊕_, _⊗_, nearest}
-use Rattle.voice.specs.Lists.{Filled, FilledRows, steps, mapTo, every}
-use Rattle.voice.proofs.Loops.{steps-again, steps-full, mapTo-again, mapTo-read, mapTo-full}
-use Rattle.player.proofs.ColumnLaws.{filled-none, filled-again, filled-full}
+use lib.ListN.{getD}
+use lib.Ieee.{Float, nan}
+use Rattle.voice.specs.Lists.{mapTo}
+use Rattle.voice.proofs.Loops.{mapTo-again, mapTo-full}
 use Rattle.player.specs.Phase.{advanceOf}
 use Rattle.player.proofs.RangeLaws.{turn-phase}
 use borrow.Author.Needs.{needs}

@@ -1,24 +1,18 @@
 use mathlib.Core.Logic.{⊎-elim}
-use mathlib.Core.Bool.{Bool, true}
-use mathlib.Core.Path.{subst}
-use mathlib.Core.List.{List}
-use lib.Dec.{T}
 use lib.ListN.{set}
 use lib.Ieee.{le}
 use lib.Ieee.Fits.{add-fits}
 use Rattle.float.proofs.Fraction.{fraction-below, fraction-over, not-lt, one}
-use Rattle.voice.specs.Voice.{phaseOk}
 use Rattle.player.proofs.RangeLaws.{hold, sum-ok, sum-under-two, turn-phase}
-use Rattle.voice.proofs.Loops.{every-at, steps-again, steps-full, mapTo-again, mapTo-read, mapTo-full}
+use Rattle.voice.proofs.Loops.{every-at, mapTo-again, mapTo-full}
 -- `move_small` meets its contract.
 use mathlib.Core.Path.{_≡_, refl, sym, ap, _∙_}
-use Prim.Native.Nat.{ℕ, _+_, _-_, _*_, _≤_, _<_}
+use Prim.Native.Nat.{_-_, _≤_}
 use native.Mathlib.Omega.{arith}
-use lib.ListN.{length, getD, length-set}
+use lib.ListN.{getD}
 use lib.Ieee.{Float, nan, binary32, ofBits}
-use Rattle.float.specs.F32.{_⊕_, _⊗_, nearest}
-use Rattle.voice.specs.Lists.{Filled, FilledRows, steps, mapTo, every}
-use Rattle.player.proofs.ColumnLaws.{filled-none, filled-again, filled-full}
+use Rattle.float.specs.F32.{_⊕_, nearest}
+use Rattle.voice.specs.Lists.{mapTo}
 use Rattle.player.specs.Phase.{advanceOf}
 use borrow.Author.Needs.{needs}
 use Rattle.player.proofs.partials.phases.move_small.Statement.{statement}

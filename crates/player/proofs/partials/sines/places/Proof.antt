@@ -9,7 +9,7 @@ use lib.Ieee.{Float, nan, binary32, ofBits, fits, sub}
 use Rattle.voice.specs.Lists.{Filled}
 use Rattle.player.specs.Phase.{Phase}
 use Rattle.filters.specs.Wave.{placeOf, restOf}
-use Rattle.player.specs.Sines.{cellFloat, Cell, AllCells}
+use Rattle.player.specs.inner.Sines.{cellFloat, Cell, AllCells}
 use Rattle.player.proofs.Waves.{place-small, phase-cell, cells-none, cells-more, cells-full}
 use Rattle.player.proofs.ColumnLaws.{filled-none, filled-again, filled-full}
 use Rattle.player.proofs.partials.sines.places.Statement.{statement}

@@ -1,13 +1,13 @@
 -- `add_row` meets its contract.
-use mathlib.Core.Path.{_≡_, refl, sym, ap, _∙_}
-use Prim.Native.Nat.{ℕ, _+_, _-_, _*_, _≤_, _<_}
+use mathlib.Core.Path.{_≡_, refl}
+use Prim.Native.Nat.{_+_, _-_, _*_, _≤_}
 use native.Mathlib.Omega.{arith}
 use lib.ListN.{length, getD, length-set}
-use lib.Ieee.{Float, nan, binary32, ofBits}
-use Rattle.float.specs.F32.{_⊕_, _⊗_, nearest}
-use Rattle.voice.specs.Lists.{Filled, FilledRows, steps, mapTo, every}
-use Rattle.voice.proofs.Loops.{steps-again, steps-full, mapTo-again, mapTo-read, mapTo-full}
-use Rattle.player.proofs.ColumnLaws.{filled-none, filled-again, filled-full, mapped-filled}
+use lib.Ieee.{nan}
+use Rattle.float.specs.F32.{_⊕_, _⊗_}
+use Rattle.voice.specs.Lists.{mapTo}
+use Rattle.voice.proofs.Loops.{mapTo-again, mapTo-full}
+use Rattle.player.proofs.ColumnLaws.{mapped-filled}
 use borrow.Author.Needs.{needs}
 use Rattle.player.proofs.partials.sum.add_row.Statement.{statement}
 use Rattle.player.proofs.partials.sum.add_row.Tie as tie

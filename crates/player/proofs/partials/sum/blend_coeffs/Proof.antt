@@ -1,13 +1,13 @@
 -- `blend_coeffs` meets its contract.
-use mathlib.Core.Path.{_≡_, refl, sym, ap, _∙_}
-use Prim.Native.Nat.{ℕ, _+_, _-_, _*_, _≤_, _<_}
+use mathlib.Core.Path.{_≡_, refl}
+use Prim.Native.Nat.{_+_, _-_, _*_, _≤_}
 use native.Mathlib.Omega.{arith}
-use lib.ListN.{length, getD, length-set}
-use lib.Ieee.{Float, nan, binary32, ofBits}
+use lib.ListN.{getD}
+use lib.Ieee.{nan, ofBits}
 use Rattle.float.specs.F32.{_⊕_, _⊗_, nearest}
-use Rattle.voice.specs.Lists.{Filled, FilledRows, steps, mapTo, every}
-use Rattle.voice.proofs.Loops.{steps-again, steps-full, mapTo-again, mapTo-read, mapTo-full}
-use Rattle.player.proofs.ColumnLaws.{filled-none, filled-again, filled-full, filled-as}
+use Rattle.voice.specs.Lists.{Filled, steps}
+use Rattle.voice.proofs.Loops.{steps-again}
+use Rattle.player.proofs.ColumnLaws.{filled-as}
 use lib.Ieee.{round}
 use Rattle.player.specs.Sound.{blendCoeff}
 use borrow.Author.Needs.{needs}

@@ -1,12 +1,12 @@
 -- `partial_sum` meets its contract.
-use mathlib.Core.Path.{_≡_, ap, _∙_}
+use mathlib.Core.Path.{ap, _∙_}
 use lib.ListN.{getD}
 use mathlib.Core.Bool.{false}
 use lib.Ieee.{Float, nan, binary32, ofBits, round}
 use lib.Ieee.Fits.{round-fits}
 use borrow.Author.Tests.{eq-eqb, ne-eqb}
 use Rattle.float.specs.F32.{_⊕_, _⊗_, nearest}
-use Rattle.player.specs.Columns.{added}
+use Rattle.player.specs.inner.Columns.{added}
 use Rattle.player.proofs.ColumnLaws.{sum-is, add-heard}
 use borrow.Author.Needs.{needs}
 use Rattle.player.proofs.partials.sum.partial_sum.Statement.{statement}

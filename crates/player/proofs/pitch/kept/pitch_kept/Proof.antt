@@ -1,5 +1,4 @@
 -- `pitch_kept` meets its contract.
-use borrow.Author.Needs.{needs}
 use Rattle.player.proofs.pitch.kept.pitch_kept.Statement.{statement}
 use Rattle.player.proofs.pitch.kept.pitch_kept.Tie as tie
 

@@ -1,14 +1,10 @@
 use Prim.Native.Nat.{ℕ}
-use mathlib.Core.Path.{_≡_, sym, ap, _∙_}
+use mathlib.Core.Path.{sym, ap, _∙_}
 use Rattle.wire.specs.Parse.{Parsed, then}
 use Rattle.wire.specs.Cursor.{stringOf, string, u32Parsed}
 use borrow.Author.Needs.{needs}
 use Rattle.wire.proofs.cursor.Cursor.string.Statement.{statement}
 use Rattle.wire.proofs.cursor.Cursor.string.Tie as tie
-use Rattle.wire.proofs.cursor.Cursor.string.Reads as reads
-use Rattle.wire.proofs.cursor.Cursor.string.Lts as lts
-use Rattle.wire.proofs.cursor.Cursor.u32.Reads as u32-reads
-use Rattle.wire.proofs.cursor.string_of.Reads as string-of-reads
 
 -- src/cursor.rt:109:15
 u32-requires : tie.Need-u32-requires

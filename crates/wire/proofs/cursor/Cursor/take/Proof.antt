@@ -3,8 +3,6 @@ use Rattle.wire.proofs.Laws.{room, past, lacking}
 use borrow.Author.Needs.{needs}
 use Rattle.wire.proofs.cursor.Cursor.take.Statement.{statement}
 use Rattle.wire.proofs.cursor.Cursor.take.Tie as tie
-use Rattle.wire.proofs.cursor.Cursor.take.Reads as reads
-use Rattle.wire.proofs.cursor.Cursor.take.Lts as lts
 
 -- src/cursor.rt:68:13
 returns : tie.Need-returns

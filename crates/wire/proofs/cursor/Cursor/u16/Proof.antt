@@ -3,9 +3,6 @@ use Rattle.wire.proofs.Laws.{room, past, lacking}
 use borrow.Author.Needs.{needs}
 use Rattle.wire.proofs.cursor.Cursor.u16.Statement.{statement}
 use Rattle.wire.proofs.cursor.Cursor.u16.Tie as tie
-use Rattle.wire.proofs.cursor.Cursor.u16.Reads as reads
-use Rattle.wire.proofs.cursor.Cursor.u16.Lts as lts
-use Rattle.wire.proofs.cursor.le16_at.Reads as le16-at-reads
 
 -- src/cursor.rt:82:13
 returns : tie.Need-returns

@@ -3,9 +3,6 @@ use Rattle.wire.proofs.Laws.{room, past, lacking}
 use borrow.Author.Needs.{needs}
 use Rattle.wire.proofs.cursor.Cursor.u32.Statement.{statement}
 use Rattle.wire.proofs.cursor.Cursor.u32.Tie as tie
-use Rattle.wire.proofs.cursor.Cursor.u32.Reads as reads
-use Rattle.wire.proofs.cursor.Cursor.u32.Lts as lts
-use Rattle.wire.proofs.cursor.le32_at.Reads as le32-at-reads
 
 -- src/cursor.rt:96:13
 returns : tie.Need-returns

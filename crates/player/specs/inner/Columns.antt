@@ -44,7 +44,8 @@ scattered live z1 z2 ms n = steps (λ l ms. withMemory ms (getD live l 0) (state
 
 -- one sample x of n filters: the columns ys, w1, w2 hold what `tick` answers for the memories z1, z2
 pub record Ticked (ys w1 w2 z1 z2 cs : List Float) (x : Float) (n : ℕ) : Type 0 where
-  pub at : (l : ℕ) → l < n → record { state = stateOfColumns w1 w2 l; y = getD ys l nan } ≡ tickOf (stateOfColumns z1 z2 l) x (coeffsOfRows cs l)
+  pub at : (l : ℕ) → l < n → record { state = stateOfColumns w1 w2 l; y = getD ys l nan } ≡ tickOf (stateOfColumns z1 z2 l) x
+      (coeffsOfRows cs l)
 
 -- ---- what a partial or a live band adds to the sample: x where its coefficient c is not 0
 abbrev pub added : Float → Float → Float → Float

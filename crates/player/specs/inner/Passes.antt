@@ -12,7 +12,7 @@ use Rattle.voice.specs.Input.{Call, inputsOk, frequenciesOk, frequencyOf, frequ
 use Rattle.voice.specs.Voice.{listAt, pitchOk, stretchOk, phasesOk, bandsAscend, voiceOf, stateOf}
 use Rattle.player.specs.Sound.{movedPhases, movedMemories, movedRng, partialSum, noiseSum}
 use Rattle.player.specs.Block.{stateAt, channelOut, blockOut, blockEnd}
-use Rattle.player.specs.Columns.{LiveIn}
+use Rattle.player.specs.inner.Columns.{LiveIn}
 use Rattle.filters.specs.declared.rng.Rng.{Rng}
 use Rattle.voice.specs.declared.voice.Setting.{Setting}
 use Rattle.voice.specs.declared.voice.Voice.{Voice}
@@ -80,12 +80,14 @@ pub record PartialsPlayed (v : Voice) (freq : ℕ → Float) (g : ℕ → List F
   pub written : out ≡ partialsOut v freq g n
 
 -- `ys` are the samples before the pass
-pub record NoisePlayed (v : Voice) (freq : ℕ → Float) (g : ℕ → List Float) (ys : List Float) (n : ℕ) (rng : Rng) (memories out : List Float) : Type 0 where
+pub record NoisePlayed (v : Voice) (freq : ℕ → Float) (g : ℕ → List Float) (ys : List Float) (n : ℕ)
+    (rng : Rng) (memories out : List Float) : Type 0 where
   pub steps-on : rng ≡ rngAt v n
   pub rings : memories ≡ memoriesAt v n
   pub written : out ≡ noiseOut v freq g ys n
 
-pub record ChannelPlayed (v : Voice) (freq : ℕ → Float) (g : ℕ → List Float) (n : ℕ) (rng : Rng) (phases memories out : List Float) : Type 0 where
+pub record ChannelPlayed (v : Voice) (freq : ℕ → Float) (g : ℕ → List Float) (n : ℕ)
+    (rng : Rng) (phases memories out : List Float) : Type 0 where
   pub ends : stateOf phases memories rng ≡ stateAt v freq n
   pub written : out ≡ channelOut v freq g n
 

@@ -51,7 +51,8 @@ module _ (x : Constants) (count : ℕ) (pitches stretches mainlobes partials : L
     pub rows-are : FilledRows rows (λ q i. partialRow partials (sides f0) q i) (rowsIn x) (x .m)
 
 -- the columns of the live bands are those of the frequency f0
-pub record NoiseTuned (x : Constants) (count n : ℕ) (pitches noiseGains noise : List Float) (live : List ℕ) (f0 : Float) (rows : List Float) (t : NoiseTuning) : Type 0 where
+pub record NoiseTuned (x : Constants) (count n : ℕ) (pitches noiseGains noise : List Float) (live : List ℕ) (f0 : Float)
+    (rows : List Float) (t : NoiseTuning) : Type 0 where
   pub at : t .f0 ≡ f0
   pub noise-gain : t .«noise_gain» ≡ between noiseGains (sidesOf (bracketOf pitches count f0))
   pub rows-are : FilledRows rows (λ q l. noiseRow noise (sidesOf (bracketOf pitches count f0)) q (getD live l 0)) (rowsIn x) n
