@@ -1,10 +1,12 @@
 // The fixed list of the original's answers on making and playing (words.rs has the words).
-// A record: kind, channel, image (length, bytes), rate, centres (count, bits); the making's number, first, second; the fresh voice as changes
-// of the voice that is all zero. Of an accepted making then: ring count and noise power of each band; the count of calls, and each call:
+// A record: kind, channel, image (length, bytes), rate, centres (count, bits); the making's number, first, second; the fresh voice
+// as changes of the voice that is all zero. Of an accepted making then: ring count and noise power of each band; the count of calls, and each call:
 //   changes of the voice before it (which the list goes on without where the call is refused);
-//   0 and a play (samples; frequency and four gains, each with channels, count and bits; channels; length of the output), or 1 for a reset, or 2 and a seed;
+//   0 and a play (samples; frequency and four gains, each with channels, count and bits; channels; length of the output),
+//   or 1 for a reset, or 2 and a seed;
 //   the number; of an accepted call the running state as changes, and of an accepted play then the output.
-// Changes: a count, and for each a place (field × 65536 + index, the fields in the order of a voice) and what stands there.
+// Changes: a count, and for each a place (field × 65536 + index) and what stands there. The fields are numbered in the order of
+// `places`, which is this list's own: a voice has them in another.
 use super::*;
 use crate::image;
 use crate::list::long_image;
