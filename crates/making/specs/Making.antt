@@ -14,6 +14,7 @@ use Rattle.table.specs.Decode.{decode, entriesOf}
 use Rattle.table.specs.Desk.{bandCount}
 use Rattle.float.specs.F32.{nearest}
 use Rattle.voice.specs.Lists.{upTo, joinTo, padded}
+use Rattle.voice.specs.Limits.{maxEntries, maxPartials, maxBands, maxBlended}
 use Rattle.filters.specs.Biquad.{noiseBand}
 use Rattle.filters.specs.Band.{zeroCoeffs, bandCompensation}
 use Rattle.filters.specs.declared.biquad.BiquadCoeffs.{BiquadCoeffs}
@@ -63,7 +64,7 @@ mostChannels (e ∷ es) = max (e .kChannels) (mostChannels es)
 -- the channels that a voice sounds: one of a single voice; of a blend all, at most 4
 abbrev pub channelCount : Kind → List PitchEntry → ℕ
 channelCount (Kind.Single c) es = 1
-channelCount Kind.Blend es = min (mostChannels es) 4
+channelCount Kind.Blend es = min (mostChannels es) maxBlended
 
 -- one more than the highest of the first n partials that is not 0 in channel c; 0 where there is none
 unfoldable pub reach : PitchEntry → ℕ → ℕ → ℕ
@@ -157,17 +158,17 @@ abbrev pub coeffFloats : BiquadCoeffs → List Float
 coeffFloats c = c .b0 ∷ c .b1 ∷ c .b2 ∷ c .a1 ∷ c .a2 ∷ []
 
 abbrev pub bandFloats : List BiquadCoeffs → List Float
-bandFloats bands = joinTo (λ b. coeffFloats (getD bands b zeroCoeffs)) 16
+bandFloats bands = joinTo (λ b. coeffFloats (getD bands b zeroCoeffs)) maxBands
 
 -- the short lists: the entries' pitches, stretches and gains, the bands and their compensations. Places that are not in use are 0.
 unfoldable pub freshLists : List PitchEntry → Float → List Float → List Float
 freshLists vs rate centres =
-    padded 16 (nearest 0 1) (map (λ e. f32 (e .f0Hz)) vs)
-    ++ (padded 16 (nearest 0 1) (map (λ e. f32 (e .stretch)) vs)
-    ++ (padded 16 (nearest 0 1) (map (gainOf mainlobeKey) vs)
-    ++ (padded 16 (nearest 0 1) (map (gainOf noiseGainKey) vs)
-    ++ (bandFloats (padded 16 zeroCoeffs (map (λ c. noiseBand c rate) centres))
-    ++ padded 16 (nearest 0 1) (map (λ c. bandCompensation c rate) centres)))))
+    padded maxEntries (nearest 0 1) (map (λ e. f32 (e .f0Hz)) vs)
+    ++ (padded maxEntries (nearest 0 1) (map (λ e. f32 (e .stretch)) vs)
+    ++ (padded maxEntries (nearest 0 1) (map (gainOf mainlobeKey) vs)
+    ++ (padded maxEntries (nearest 0 1) (map (gainOf noiseGainKey) vs)
+    ++ (bandFloats (padded maxBands zeroCoeffs (map (λ c. noiseBand c rate) centres))
+    ++ padded maxBands (nearest 0 1) (map (λ c. bandCompensation c rate) centres)))))
 
 -- what an accepted making answers: its numbers; of the entries kept, sorted by pitch, the short lists and the coefficients; the first state
 unfoldable pub freshVoice : Kind → List PitchEntry → Float → List Float → Voice
@@ -185,7 +186,7 @@ freshVoice k es rate centres =
       j = j;
       «live_count» = length (liveBands k es j);
       «sample_rate» = rate;
-      live = padded 16 0 (liveBands k es j);
+      live = padded maxBands 0 (liveBands k es j);
     })
     (freshLists vs rate centres)
     (upTo (partialPlace k n vs) 2048)
@@ -205,12 +206,12 @@ blankVoice =
       j = 0;
       «live_count» = 0;
       «sample_rate» = nearest 0 1;
-      live = replicate 16 0;
+      live = replicate maxBands 0;
     })
     (replicate 160 (nearest 0 1))
     (replicate 2048 (nearest 0 1))
     (replicate 1024 (nearest 0 1))
-    (stateOf (replicate 32 (nearest 0 1)) noMemories (record { state = 0 }))
+    (stateOf (replicate maxPartials (nearest 0 1)) noMemories (record { state = 0 }))
 
 -- ---- questions 8 to 12
 -- all of a list pass a test
@@ -224,10 +225,10 @@ any f (a ∷ l) = f a || any f l
 
 -- 8: at most 16 entries, M 32, j 16 in each?
 abbrev pub sizesOk : PitchEntry → Bool
-sizesOk e = leb (mPartials e) 32 && leb (e .jNoise) 16
+sizesOk e = leb (mPartials e) maxPartials && leb (e .jNoise) maxBands
 
 unfoldable pub limitsOk : List PitchEntry → Bool
-limitsOk es = leb (length es) 16 && all sizesOk es
+limitsOk es = leb (length es) maxEntries && all sizesOk es
 
 -- 9: pitch, stretch, every coefficient, and both gains where present. Partial frequencies are never looked at.
 abbrev pub presentFinite : Option ℕ → Bool

@@ -13,6 +13,8 @@ use table::desk::larger;
 use table::entry::EntryView;
 use table::entry::has_channel;
 
+const MAX_BLENDED: u32 = 4;
+
 // The largest band count that an entry gives the voice.
 pub fn band_count(views: [EntryView; 16], count: usize, kind: Kind) -> u32
     requires { ⌜ count ≤ 16 ⌝ }
@@ -50,7 +52,11 @@ pub fn channel_count(views: [EntryView; 16], count: usize, kind: Kind) -> u32
         Kind::Single(_) => 1,
         Kind::Blend => {
             let most = most_channels(views, count);
-            if most <= 4 { most } else { 4 }
+            if most <= MAX_BLENDED {
+                most
+            } else {
+                MAX_BLENDED
+            }
         }
     }
 }

@@ -7,11 +7,15 @@ ghost use Rattle.making.specs.Making.{all, sizesOk};
 ghost use Rattle.making.specs.inner.Views.{viewed};
 use table::entry::EntryView;
 
+const MAX_PARTIALS: u32 = 32;
+
+const MAX_BANDS: u32 = 16;
+
 fn size_ok(v: EntryView) -> bool
     ensures { λ r. ⌜ ((s : List ℕ) → r ≡ sizesOk (entryAt s v)) ⌝ }
 {
-    if v.m_partials <= 32 {
-        return v.j_noise <= 16;
+    if v.m_partials <= MAX_PARTIALS {
+        return v.j_noise <= MAX_BANDS;
     }
     false
 }

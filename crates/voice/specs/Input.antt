@@ -8,6 +8,7 @@ use lib.Ieee.{Float, nan, lt}
 use lib.Ieee.Scale.{finite}
 use Rattle.float.specs.F32.{nearest}
 use Rattle.voice.specs.Lists.{every}
+use Rattle.voice.specs.Limits.{maxChannels, maxHz}
 use Rattle.voice.specs.declared.shape.Shape.{Shape}
 
 -- all that a play is handed but the voice and the output: the block's numbers, and the slices of the frequency and of the four gains
@@ -46,7 +47,7 @@ gainsAt c ch =
 
 -- question 15 of one input: is it unconnected, or 1 to 8 channels of the block's length, its slice exactly that long?
 abbrev pub inputOk : ℕ → ℕ → ℕ → Bool
-inputOk k n len = eqb k 0 || (leb k 8 && eqb (k * n) len)
+inputOk k n len = eqb k 0 || (leb k maxChannels && eqb (k * n) len)
 
 -- and of all five, by the lengths of their slices; also of gains that the voice does not sound by
 abbrev pub inputsOf : Shape → ℕ → ℕ → ℕ → ℕ → ℕ → Bool
@@ -60,7 +61,7 @@ inputsOk c = inputsOf (c .shape) (length (c .freq)) (length (c .g0)) (length (c 
 
 -- question 16: is every finite frequency of a connected input at most 20,000? (All of the slice is asked.)
 abbrev pub frequencyOk : Float → Bool
-frequencyOk f = cond (finite f) (not (lt (nearest 20000 1) f)) true
+frequencyOk f = cond (finite f) (not (lt (nearest maxHz 1) f)) true
 
 abbrev pub frequenciesOk : ℕ → List Float → Bool
 frequenciesOk k s = eqb k 0 || every (λ i. frequencyOk (getD s i nan)) (length s)

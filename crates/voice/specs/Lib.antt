@@ -1,4 +1,5 @@
 pub mod Lists
+pub mod Limits
 pub mod Voice
 pub mod Input
 pub mod Question

@@ -3,6 +3,7 @@ use Prim.Native.Nat.{ℕ, zero, suc, _*_}
 use mathlib.Core.Bool.{Bool, true, false, _&&_}
 use lib.Dec.{leb, eqb}
 use Rattle.voice.specs.Input.{Call, inputsOk, frequenciesOk}
+use Rattle.voice.specs.Limits.{maxSamples, maxChannels}
 use Rattle.voice.specs.Voice.{keepsRules}
 use Rattle.voice.specs.declared.answer.PlayAnswer.{PlayAnswer}
 use Rattle.voice.specs.declared.answer.Played.{Played}
@@ -23,7 +24,7 @@ playNumber PlayAnswer.BadFrequency = 16
 
 -- question 14: is the output a block of at most 128 samples by 1 to 8 channels, its slice exactly samples × channels long?
 abbrev pub blockOk : ℕ → ℕ → ℕ → Bool
-blockOk n channels len = leb n 128 && (leb 1 channels && (leb channels 8 && eqb len (channels * n)))
+blockOk n channels len = leb n maxSamples && (leb 1 channels && (leb channels maxChannels && eqb len (channels * n)))
 
 -- questions 14 to 16, which the call's own arguments and the length of its output answer
 unfoldable pub callQuestion : Call → ℕ → ℕ

@@ -7,6 +7,7 @@ use lib.Dec.{leb, ltb, eqb}
 use lib.Ieee.{Float, nan, le, lt}
 use Rattle.float.specs.F32.{nearest}
 use Rattle.voice.specs.Lists.{every, upTo}
+use Rattle.voice.specs.Limits.{maxEntries, maxPartials, maxBands, maxBlended, maxHz}
 pub use Rattle.filters.specs.Rate.{rateOk}
 use Rattle.filters.specs.Rng.{newRng, defaultSeed}
 use Rattle.filters.specs.declared.biquad.BiquadCoeffs.{BiquadCoeffs}
@@ -60,7 +61,7 @@ phaseOk p = le (nearest 0 1) p && lt p (nearest 1 1)
 
 -- a pitch is finite, above 0 and at most 20,000; a stretch is 0 to 4 (a NaN fails every test)
 abbrev pub pitchOk : Float → Bool
-pitchOk f = lt (nearest 0 1) f && le f (nearest 20000 1)
+pitchOk f = lt (nearest 0 1) f && le f (nearest maxHz 1)
 
 abbrev pub stretchOk : Float → Bool
 stretchOk s = le (nearest 0 1) s && le s (nearest 4 1)
@@ -75,7 +76,9 @@ bandsAscend l n = every (λ i. ltb (getD l i 0) (getD l (i + 1) 0)) (n - 1)
 
 -- at most 16 entries, 32 phases, 16 bands, 4 blend channels (and 16 live bands, since each is below j and none comes twice)
 unfoldable pub countsOk : Setting → Bool
-countsOk s = leb (s .count) 16 && (leb (s .m) 32 && (leb (s .j) 16 && (leb (s .k) 4 && leb (s .«live_count») 16)))
+countsOk s =
+    leb (s .count) maxEntries
+    && (leb (s .m) maxPartials && (leb (s .j) maxBands && (leb (s .k) maxBlended && leb (s .«live_count») maxBands)))
 
 -- of the first n entries: pitches finite, above 0, at most 20,000, ascending with equal ones allowed; stretches 0 to 4
 unfoldable pub entriesOk : List Float → ℕ → Bool
@@ -116,4 +119,4 @@ abbrev pub noMemories : List Float
 noMemories = replicate 32 (nearest 0 1)
 
 abbrev pub firstState : State
-firstState = stateOf (replicate 32 (nearest 0 1)) noMemories (newRng defaultSeed)
+firstState = stateOf (replicate maxPartials (nearest 0 1)) noMemories (newRng defaultSeed)

@@ -1,5 +1,6 @@
 // A voice, its rules, the questions 13 to 16 that a call on it is asked, reset and reseed.
 mod answer;
+mod limits;
 mod lists;
 mod question;
 mod restart;
@@ -11,6 +12,13 @@ pub use answer::PlayAnswer;
 pub use answer::Played;
 pub use filters::BiquadCoeffs;
 pub use filters::Rng;
+pub use limits::MAX_BANDS;
+pub use limits::MAX_BLENDED;
+pub use limits::MAX_CHANNELS;
+pub use limits::MAX_ENTRIES;
+pub use limits::MAX_HZ;
+pub use limits::MAX_PARTIALS;
+pub use limits::MAX_SAMPLES;
 pub use lists::COMPENSATIONS;
 pub use lists::MAINLOBE_GAINS;
 pub use lists::NOISE_GAINS;

@@ -7,6 +7,9 @@ ghost use Rattle.voice.specs.Lists.{every};
 ghost use Rattle.voice.specs.Input.{call, inputOk, inputsOf, frequencyOk, frequenciesOk};
 ghost use Rattle.voice.specs.Voice.{rulesOf};
 ghost use Rattle.voice.specs.Question.{ask, blockOk, callQuestion};
+use crate::limits::MAX_CHANNELS;
+use crate::limits::MAX_HZ;
+use crate::limits::MAX_SAMPLES;
 use crate::rules::both;
 use crate::rules::rules_of;
 use crate::shape::Shape;
@@ -17,7 +20,7 @@ fn frequency_ok(f: f32) -> bool
     ensures { λ r. ⌜ r ≡ frequencyOk f ⌝ }
 {
     if float::is_finite(f) {
-        !(20000.0 < f)
+        !(MAX_HZ < f)
     } else {
         true
     }
@@ -49,9 +52,9 @@ fn frequencies_ok(k: usize, s: &[f32]) -> bool
 fn block_ok(samples: usize, channels: usize, len: usize) -> bool
     ensures { λ r. ⌜ r ≡ blockOk samples channels len ⌝ }
 {
-    if samples <= 128 {
+    if samples <= MAX_SAMPLES {
         if 1 <= channels {
-            if channels <= 8 {
+            if channels <= MAX_CHANNELS {
                 len == channels * samples
             } else {
                 false
@@ -72,7 +75,7 @@ fn input_ok(k: usize, samples: usize, len: usize) -> bool
     if k == 0 {
         return true;
     }
-    if k <= 8 {
+    if k <= MAX_CHANNELS {
         return k * samples == len;
     }
     false

@@ -7,6 +7,11 @@ ghost use lib.Ieee.{nan};
 ghost use lib.Dec.{leb, ltb};
 ghost use Rattle.voice.specs.Lists.{every};
 ghost use Rattle.voice.specs.Voice.{phaseOk, pitchOk, stretchOk, rateOk, pitchesAscend, bandsAscend, phasesOk, rulesOf, keepsRules};
+use crate::limits::MAX_BANDS;
+use crate::limits::MAX_BLENDED;
+use crate::limits::MAX_ENTRIES;
+use crate::limits::MAX_HZ;
+use crate::limits::MAX_PARTIALS;
 use crate::lists::PITCHES;
 use crate::lists::STRETCHES;
 use crate::lists::band_of;
@@ -29,7 +34,7 @@ fn phase_ok(p: f32) -> bool
 pub fn pitch_ok(f: f32) -> bool
     ensures { λ r. ⌜ r ≡ pitchOk f ⌝ }
 {
-    both(0.0 < f, f <= 20000.0)
+    both(0.0 < f, f <= MAX_HZ)
 }
 
 pub fn stretch_ok(s: f32) -> bool
@@ -126,8 +131,14 @@ fn counts_ok(count: usize, m: usize, j: usize, k: usize, live_count: usize) -> b
     ensures { λ r. ⌜ r ≡ leb count 16 && (leb m 32 && (leb j 16 && (leb k 4 && leb «live_count» 16))) ⌝ }
 {
     both(
-        count <= 16,
-        both(m <= 32, both(j <= 16, both(k <= 4, live_count <= 16))),
+        count <= MAX_ENTRIES,
+        both(
+            m <= MAX_PARTIALS,
+            both(
+                j <= MAX_BANDS,
+                both(k <= MAX_BLENDED, live_count <= MAX_BANDS),
+            ),
+        ),
     )
 }
 

@@ -1,0 +1,26 @@
+-- The limits of a voice and of a block, each by its name.
+use Prim.Native.Nat.{ℕ}
+
+-- of a voice: entries, partials, noise bands, and channels that a blend takes
+abbrev pub maxEntries : ℕ
+maxEntries = 16
+
+abbrev pub maxPartials : ℕ
+maxPartials = 32
+
+abbrev pub maxBands : ℕ
+maxBands = 16
+
+abbrev pub maxBlended : ℕ
+maxBlended = 4
+
+-- of a block: samples of a channel, and channels of an input or of the output
+abbrev pub maxSamples : ℕ
+maxSamples = 128
+
+abbrev pub maxChannels : ℕ
+maxChannels = 8
+
+-- the highest pitch and the highest finite frequency, in Hz
+abbrev pub maxHz : ℕ
+maxHz = 20000
