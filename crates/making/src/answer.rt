@@ -11,6 +11,7 @@ ghost use Rattle.table.specs.Desk.{bandCount};
 ghost use Rattle.making.specs.Making.{any, all, sizesOk, channelFound, centresOk, tableQuestion};
 ghost use Rattle.making.specs.inner.Views.{viewed, laterQuestion};
 ghost use Rattle.making.specs.MakeAnswer.{makeRefusal};
+ghost use Rattle.voice.specs.Limits.{maxEntries};
 use crate::limits::sizes_ok;
 use crate::values::ValuesAnswer;
 use crate::values::first_bad;
@@ -45,7 +46,7 @@ pub fn is_done(a: MakeAnswer) -> bool
 }
 
 fn any_channel(views: [EntryView; 16], count: usize, channel: u32) -> bool
-    requires { ⌜ count ≤ 16 ⌝ }
+    requires { ⌜ count ≤ maxEntries ⌝ }
     ensures { λ r. ⌜ ((s : List ℕ) → r ≡ any (λ e. hasChannel e channel) (viewed s views count)) ⌝ }
 {
     let mut i = 0;
@@ -61,7 +62,7 @@ fn any_channel(views: [EntryView; 16], count: usize, channel: u32) -> bool
 
 // Question 10.
 fn channel_found(views: [EntryView; 16], count: usize, kind: Kind) -> bool
-    requires { ⌜ count ≤ 16 ⌝ }
+    requires { ⌜ count ≤ maxEntries ⌝ }
     ensures { λ r. ⌜ ((s : List ℕ) → r ≡ channelFound kind (viewed s views count)) ⌝ }
 {
     match kind {
@@ -107,7 +108,7 @@ fn later_question(
     sample_rate: f32,
     centres: &[f32],
 ) -> MakeAnswer
-    requires { ⌜ count ≤ 16 ⌝ ∗ ⌜ ((s : List ℕ) → bands ≡ bandCount kind (viewed s views count)) ⌝ }
+    requires { ⌜ count ≤ maxEntries ⌝ ∗ ⌜ ((s : List ℕ) → bands ≡ bandCount kind (viewed s views count)) ⌝ }
     ensures { λ r. ⌜ ((s : List ℕ) → makeRefusal r ≡ laterQuestion kind (viewed s views count) «sample_rate» (now (centres .entry))) ⌝ }
 {
     if !channel_found(views, count, kind) {
@@ -132,7 +133,7 @@ pub fn question(
     sample_rate: f32,
     centres: &[f32],
 ) -> MakeAnswer
-    requires { ⌜ count ≤ 16 ⌝ ∗ ⌜ ((s : List ℕ) → bands ≡ bandCount kind (viewed s views count)) ⌝ }
+    requires { ⌜ count ≤ maxEntries ⌝ ∗ ⌜ ((s : List ℕ) → bands ≡ bandCount kind (viewed s views count)) ⌝ }
     ensures { λ r. ⌜ makeRefusal r ≡ tableQuestion kind (viewed (now (image .entry)) views count) «sample_rate» (now (centres .entry)) ⌝ }
 {
     if !sizes_ok(views, count) {

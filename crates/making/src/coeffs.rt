@@ -4,6 +4,7 @@ ghost use Rattle.table.specs.View.{entryAt};
 ghost use Prim.Native.Nat.{_≤_, _<_};
 ghost use Rattle.table.specs.Answer.{foundBits};
 ghost use Rattle.making.specs.Making.{partialCoeff, noiseCoeff, gainOr1, gainOf, mainlobeKey, noiseGainKey};
+ghost use Rattle.voice.specs.Limits.{maxPartials, maxBands};
 use table::Found;
 use table::entry::EntryView;
 use table::entry::coefficient;
@@ -21,7 +22,7 @@ pub fn partial_coeff(s: &[u8], v: EntryView, c: u32, i: u32) -> f32
 
 // A band's coefficient stands after those of the partials.
 pub fn noise_coeff(s: &[u8], v: EntryView, c: u32, b: u32) -> f32
-    requires { ⌜ v .«m_partials» ≤ 32 ⌝ ∗ ⌜ b < 16 ⌝ }
+    requires { ⌜ v .«m_partials» ≤ maxPartials ⌝ ∗ ⌜ b < maxBands ⌝ }
     ensures { λ r. ⌜ r ≡ noiseCoeff (entryAt (now (s .entry)) v) c b ⌝ }
 {
     if b < v.j_noise {

@@ -6,6 +6,7 @@ ghost use Rattle.table.specs.View.{entryAt};
 ghost use Rattle.table.specs.Desk.{bandCount};
 ghost use Rattle.making.specs.Making.{mostChannels, channelCount, reach, reachIn, phasesFor, phaseCount};
 ghost use Rattle.making.specs.inner.Views.{viewed};
+ghost use Rattle.voice.specs.Limits.{maxEntries, maxBlended};
 use crate::coeffs::partial_coeff;
 use table::desk::Kind;
 use table::desk::bands_of;
@@ -17,7 +18,7 @@ const MAX_BLENDED: u32 = 4;
 
 // The largest band count that an entry gives the voice.
 pub fn band_count(views: [EntryView; 16], count: usize, kind: Kind) -> u32
-    requires { ⌜ count ≤ 16 ⌝ }
+    requires { ⌜ count ≤ maxEntries ⌝ }
     ensures { λ r. ⌜ ((s : List ℕ) → r ≡ bandCount kind (viewed s views count)) ⌝ }
 {
     let mut best: u32 = 0;
@@ -31,7 +32,7 @@ pub fn band_count(views: [EntryView; 16], count: usize, kind: Kind) -> u32
 }
 
 fn most_channels(views: [EntryView; 16], count: usize) -> u32
-    requires { ⌜ count ≤ 16 ⌝ }
+    requires { ⌜ count ≤ maxEntries ⌝ }
     ensures { λ r. ⌜ ((s : List ℕ) → r ≡ mostChannels (viewed s views count)) ⌝ }
 {
     let mut best: u32 = 0;
@@ -45,8 +46,8 @@ fn most_channels(views: [EntryView; 16], count: usize) -> u32
 }
 
 pub fn channel_count(views: [EntryView; 16], count: usize, kind: Kind) -> u32
-    requires { ⌜ count ≤ 16 ⌝ }
-    ensures { λ r. ⌜ ((s : List ℕ) → r ≡ channelCount kind (viewed s views count)) × (r ≤ 4) ⌝ }
+    requires { ⌜ count ≤ maxEntries ⌝ }
+    ensures { λ r. ⌜ ((s : List ℕ) → r ≡ channelCount kind (viewed s views count)) × (r ≤ maxBlended) ⌝ }
 {
     match kind {
         Kind::Single(_) => 1,
@@ -104,7 +105,7 @@ fn phases_for(s: &[u8], v: EntryView, kind: Kind, n: u32) -> u32
 }
 
 pub fn phase_count(s: &[u8], views: [EntryView; 16], count: usize, kind: Kind, n: u32) -> u32
-    requires { ⌜ count ≤ 16 ⌝ }
+    requires { ⌜ count ≤ maxEntries ⌝ }
     ensures { λ r. ⌜ r ≡ phaseCount kind n (viewed (now (s .entry)) views count) ⌝ }
 {
     let mut best: u32 = 0;

@@ -7,6 +7,7 @@ ghost use Rattle.voice.specs.Lists.{upTo};
 ghost use Rattle.making.specs.Making.{all, sizesOk, partialCoeff, noiseCoeff, inSlot, slotChannel, partialPlace, noisePlace};
 ghost use Rattle.making.specs.inner.Views.{viewed};
 ghost use Rattle.making.specs.inner.Columns.{columnsOf, slotOption};
+ghost use Rattle.voice.specs.Limits.{maxEntries, maxPartials};
 use crate::coeffs::mainlobe_gain;
 use crate::coeffs::noise_coeff;
 use crate::coeffs::noise_gain;
@@ -22,7 +23,7 @@ pub struct Columns {
 }
 
 pub fn columns_of(s: &[u8], views: [EntryView; 16], count: usize) -> Columns
-    requires { ⌜ count ≤ 16 ⌝ }
+    requires { ⌜ count ≤ maxEntries ⌝ }
     ensures { λ r. ⌜ r ≡ columnsOf (viewed (now (s .entry)) views count) ⌝ }
 {
     let mut pitches = [0.0; 16];
@@ -83,7 +84,7 @@ fn partial_at(s: &[u8], v: EntryView, kind: Kind, n: u32, y: u32) -> f32
 }
 
 pub fn partials(s: &[u8], views: [EntryView; 16], count: usize, kind: Kind, n: u32) -> [f32; 2048]
-    requires { ⌜ count ≤ 16 ⌝ }
+    requires { ⌜ count ≤ maxEntries ⌝ }
     ensures { λ r. ⌜ r ≡ upTo (partialPlace kind n (viewed (now (s .entry)) views count)) 2048 ⌝ }
 {
     let mut out = [0.0; 2048];
@@ -99,7 +100,7 @@ pub fn partials(s: &[u8], views: [EntryView; 16], count: usize, kind: Kind, n: u
 
 // What stands at place y of an entry's 64: slot y / 16, band y % 16.
 fn noise_at(s: &[u8], v: EntryView, kind: Kind, n: u32, y: u32) -> f32
-    requires { ⌜ v .«m_partials» ≤ 32 ⌝ }
+    requires { ⌜ v .«m_partials» ≤ maxPartials ⌝ }
     ensures { λ r. ⌜ r ≡ inSlot (λ c. noiseCoeff (entryAt (now (s .entry)) v) c (y % 16)) (slotChannel kind n (y / 16 % 4)) ⌝ }
 {
     match slot_channel(kind, n, y / 16 % 4) {
@@ -109,7 +110,7 @@ fn noise_at(s: &[u8], v: EntryView, kind: Kind, n: u32, y: u32) -> f32
 }
 
 pub fn noise(s: &[u8], views: [EntryView; 16], count: usize, kind: Kind, n: u32) -> [f32; 1024]
-    requires { ⌜ count ≤ 16 ⌝ ∗ ⌜ all sizesOk (viewed (now s) views count) ≡ true ⌝ }
+    requires { ⌜ count ≤ maxEntries ⌝ ∗ ⌜ all sizesOk (viewed (now s) views count) ≡ true ⌝ }
     ensures { λ r. ⌜ r ≡ upTo (noisePlace kind n (viewed (now (s .entry)) views count)) 1024 ⌝ }
 {
     let mut out = [0.0; 1024];

@@ -6,6 +6,7 @@ ghost use mathlib.Core.Bool.{true};
 ghost use Rattle.voice.specs.Voice.{rateOk};
 ghost use Rattle.filters.specs.Band.{zeroCoeffs};
 ghost use Rattle.making.specs.inner.Columns.{bandsFrom};
+ghost use Rattle.voice.specs.Limits.{maxBands};
 use filters::BiquadCoeffs;
 use filters::init_band;
 
@@ -27,7 +28,7 @@ fn zero_coeffs() -> BiquadCoeffs
 }
 
 pub fn init(sample_rate: f32, centres: &[f32]) -> Bands
-    requires { ⌜ rateOk «sample_rate» ≡ true ⌝ ∗ ⌜ length (now centres) ≤ 16 ⌝ }
+    requires { ⌜ rateOk «sample_rate» ≡ true ⌝ ∗ ⌜ length (now centres) ≤ maxBands ⌝ }
     ensures { λ r. ⌜ r ≡ bandsFrom (now (centres .entry)) «sample_rate» ⌝ }
 {
     let zero = zero_coeffs();

@@ -5,6 +5,7 @@ ghost use mathlib.Core.List.{List};
 ghost use Rattle.table.specs.View.{entryAt};
 ghost use Rattle.making.specs.Making.{all, sizesOk};
 ghost use Rattle.making.specs.inner.Views.{viewed};
+ghost use Rattle.voice.specs.Limits.{maxEntries};
 use table::entry::EntryView;
 
 const MAX_PARTIALS: u32 = 32;
@@ -21,7 +22,7 @@ fn size_ok(v: EntryView) -> bool
 }
 
 pub fn sizes_ok(views: [EntryView; 16], count: usize) -> bool
-    requires { ⌜ count ≤ 16 ⌝ }
+    requires { ⌜ count ≤ maxEntries ⌝ }
     ensures { λ r. ⌜ ((s : List ℕ) → r ≡ all sizesOk (viewed s views count)) ⌝ }
 {
     let mut i = 0;

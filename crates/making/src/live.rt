@@ -6,6 +6,7 @@ ghost use Rattle.table.specs.View.{entryAt};
 ghost use Rattle.making.specs.inner.Live.{liveOf, addLive};
 ghost use Rattle.making.specs.Making.{all, sizesOk, liveIn, liveAmong, isLive, liveBands, channelCount};
 ghost use Rattle.making.specs.inner.Views.{viewed};
+ghost use Rattle.voice.specs.Limits.{maxEntries, maxPartials, maxBands};
 use crate::coeffs::noise_coeff;
 use table::desk::Kind;
 use table::entry::EntryView;
@@ -17,7 +18,7 @@ pub struct Live {
 
 // Whether band b is not 0 in one of the first n channels of an entry.
 fn live_in(s: &[u8], v: EntryView, b: u32, n: u32) -> bool
-    requires { ⌜ v .«m_partials» ≤ 32 ⌝ ∗ ⌜ b < 16 ⌝ }
+    requires { ⌜ v .«m_partials» ≤ maxPartials ⌝ ∗ ⌜ b < maxBands ⌝ }
     ensures { λ r. ⌜ r ≡ liveIn (entryAt (now (s .entry)) v) b n ⌝ }
 {
     let mut q = n;
@@ -31,7 +32,7 @@ fn live_in(s: &[u8], v: EntryView, b: u32, n: u32) -> bool
 }
 
 fn live_among(s: &[u8], views: [EntryView; 16], count: usize, n: u32, b: u32) -> bool
-    requires { ⌜ count ≤ 16 ⌝ ∗ ⌜ all sizesOk (viewed (now s) views count) ≡ true ⌝ ∗ ⌜ b < 16 ⌝ }
+    requires { ⌜ count ≤ maxEntries ⌝ ∗ ⌜ all sizesOk (viewed (now s) views count) ≡ true ⌝ ∗ ⌜ b < maxBands ⌝ }
     ensures { λ r. ⌜ r ≡ liveAmong (viewed (now (s .entry)) views count) n b ⌝ }
 {
     let mut i = 0;
@@ -46,7 +47,7 @@ fn live_among(s: &[u8], views: [EntryView; 16], count: usize, n: u32, b: u32) ->
 }
 
 fn is_live(s: &[u8], views: [EntryView; 16], count: usize, kind: Kind, n: u32, b: u32) -> bool
-    requires { ⌜ count ≤ 16 ⌝ ∗ ⌜ all sizesOk (viewed (now s) views count) ≡ true ⌝ ∗ ⌜ b < 16 ⌝
+    requires { ⌜ count ≤ maxEntries ⌝ ∗ ⌜ all sizesOk (viewed (now s) views count) ≡ true ⌝ ∗ ⌜ b < maxBands ⌝
         ∗ ⌜ n ≡ channelCount kind (viewed (now s) views count) ⌝ }
     ensures { λ r. ⌜ r ≡ isLive kind (viewed (now (s .entry)) views count) b ⌝ }
 {
@@ -58,7 +59,7 @@ fn is_live(s: &[u8], views: [EntryView; 16], count: usize, kind: Kind, n: u32, b
 
 // One band more, if it is live.
 fn add_live(live: Live, b: u32, is: bool) -> Live
-    requires { ⌜ live .count < 16 ⌝ ∗ ⌜ b < 16 ⌝ }
+    requires { ⌜ live .count < maxBands ⌝ ∗ ⌜ b < maxBands ⌝ }
     ensures { λ r. ⌜ r ≡ addLive live b is ⌝ }
 {
     if is {
@@ -82,7 +83,7 @@ pub fn live_bands(
     n: u32,
     j: u32,
 ) -> Live
-    requires { ⌜ count ≤ 16 ⌝ ∗ ⌜ all sizesOk (viewed (now s) views count) ≡ true ⌝ ∗ ⌜ j ≤ 16 ⌝
+    requires { ⌜ count ≤ maxEntries ⌝ ∗ ⌜ all sizesOk (viewed (now s) views count) ≡ true ⌝ ∗ ⌜ j ≤ maxBands ⌝
         ∗ ⌜ n ≡ channelCount kind (viewed (now s) views count) ⌝ }
     ensures { λ r. ⌜ r ≡ liveOf (liveBands kind (viewed (now (s .entry)) views count) j) ⌝ }
 {

@@ -9,6 +9,7 @@ ghost use Rattle.voice.specs.Voice.{rateOk};
 ghost use Rattle.making.specs.Making.{all, sizesOk, kindNumber, kindChannel, freshVoice, blankVoice, making, makeOf};
 ghost use Rattle.making.specs.inner.Views.{viewed};
 ghost use Rattle.making.specs.MakeAnswer.{makeRefusal, madeOf, tableMade};
+ghost use Rattle.voice.specs.Limits.{maxEntries};
 use crate::answer::MakeAnswer;
 use crate::answer::is_done;
 use crate::answer::question;
@@ -92,7 +93,7 @@ fn fresh(
     sample_rate: f32,
     centres: &[f32],
 ) -> Voice
-    requires { ⌜ count ≤ 16 ⌝ ∗ ⌜ all sizesOk (viewed (now image) views count) ≡ true ⌝
+    requires { ⌜ count ≤ maxEntries ⌝ ∗ ⌜ all sizesOk (viewed (now image) views count) ≡ true ⌝
         ∗ ⌜ j ≡ bandCount kind (viewed (now image) views count) ⌝ ∗ ⌜ rateOk «sample_rate» ≡ true ⌝ ∗ ⌜ length (now centres) ≡ j ⌝ }
     ensures { λ r. ⌜ r ≡ freshVoice kind (viewed (now (image .entry)) views count) «sample_rate» (now (centres .entry)) ⌝ }
 {
@@ -142,7 +143,7 @@ fn make_from(
     sample_rate: f32,
     centres: &[f32],
 ) -> MadeVoice
-    requires { ⌜ count ≤ 16 ⌝ }
+    requires { ⌜ count ≤ maxEntries ⌝ }
     ensures { λ r. ⌜ madeOf r ≡ tableMade kind (viewed (now (image .entry)) views count) «sample_rate» (now (centres .entry)) ⌝ }
 {
     let j = band_count(views, count, kind);

@@ -7,6 +7,7 @@ ghost use Rattle.table.specs.View.{entryAt};
 ghost use Rattle.table.specs.Answer.{foundBits};
 ghost use Rattle.making.specs.Making.{f32, all, presentFinite, valuesOk, askValues};
 ghost use Rattle.making.specs.inner.Views.{viewed, valuesThen};
+ghost use Rattle.voice.specs.Limits.{maxEntries};
 use table::Found;
 use table::entry::EntryView;
 use table::entry::metadata_value;
@@ -64,7 +65,7 @@ fn values_ok(s: &[u8], v: EntryView) -> bool
 
 // The first entry with a bad value.
 pub fn first_bad(s: &[u8], views: [EntryView; 16], count: usize) -> ValuesAnswer
-    requires { ⌜ count ≤ 16 ⌝ }
+    requires { ⌜ count ≤ maxEntries ⌝ }
     ensures { λ r. ⌜ ((rest : Refusal) → valuesThen r rest ≡ askValues 0 (viewed (now (s .entry)) views count) rest) ⌝ }
 {
     let mut i = 0;

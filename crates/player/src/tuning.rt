@@ -16,6 +16,7 @@ ghost use Rattle.player.specs.inner.Columns.{LiveIn};
 ghost use Rattle.voice.specs.Voice.{pitchOk, stretchOk};
 ghost use Rattle.player.specs.Sound.{partialRow};
 ghost use Rattle.player.specs.inner.Tuning.{Tuned, NoiseTuned};
+ghost use Rattle.voice.specs.Limits.{maxEntries, maxPartials, maxBands, maxBlended};
 use crate::columns::all_up_to;
 use crate::constants::Constants;
 use crate::noise::sum::noise_rows;
@@ -59,7 +60,7 @@ pub fn noise_untuned() -> NoiseTuning
 
 // The partials' frequencies, and what each phase gains in a sample.
 fn steps_of(freqs: &mut [f32; 32], incs: &mut [f32; 32], m: usize, f0: f32, stretch: f32, inv: f32)
-    requires { ⌜ m ≤ 32 ⌝ }
+    requires { ⌜ m ≤ maxPartials ⌝ }
     ensures { λ r. ⌜ Filled (now (freqs .exit)) (λ i. partialFreq (i + 1) f0 stretch) m ⌝ }
     ensures { λ r. ⌜ Filled (now (incs .exit)) (λ i. stepOf (i + 1) f0 stretch inv) m ⌝ }
 {
@@ -75,7 +76,7 @@ fn steps_of(freqs: &mut [f32; 32], incs: &mut [f32; 32], m: usize, f0: f32, stre
 }
 
 fn fades_of(fades: &mut [f32; 32], freqs: &[f32; 32], m: usize, nyquist: f32)
-    requires { ⌜ m ≤ 32 ⌝ }
+    requires { ⌜ m ≤ maxPartials ⌝ }
     ensures { λ r. ⌜ Filled (now (fades .exit)) (λ i. nyquistFade (getD (now (freqs .entry)) i nan) nyquist) m ⌝ }
 {
     let fs = &mut fades[..];
@@ -88,7 +89,8 @@ fn fades_of(fades: &mut [f32; 32], freqs: &[f32; 32], m: usize, nyquist: f32)
 
 // Channel q's coefficients between the two sides, after those of the channels before it.
 fn row_of(rows: &mut [f32; 128], partials: &[f32; 2048], s: Sides, q: usize, m: usize)
-    requires { ⌜ SidesIn 16 s × (q < 4) × (m ≤ 32) × FilledRows (now rows) (λ q i. partialRow (now partials) s q i) q m ⌝ }
+    requires { ⌜ SidesIn maxEntries s × (q < maxBlended) × (m ≤ maxPartials)
+        × FilledRows (now rows) (λ q i. partialRow (now partials) s q i) q m ⌝ }
     ensures { λ r. ⌜ FilledRows (now (rows .exit)) (λ q i. partialRow (now (partials .entry)) s q i) (q + 1) m ⌝ }
 {
     let places = &mut rows[..];
@@ -103,7 +105,7 @@ fn row_of(rows: &mut [f32; 128], partials: &[f32; 2048], s: Sides, q: usize, m: 
 }
 
 fn rows_of(rows: &mut [f32; 128], partials: &[f32; 2048], s: Sides, k: usize, m: usize)
-    requires { ⌜ SidesIn 16 s × (k ≤ 4) × (m ≤ 32) ⌝ }
+    requires { ⌜ SidesIn maxEntries s × (k ≤ maxBlended) × (m ≤ maxPartials) ⌝ }
     ensures { λ r. ⌜ FilledRows (now (rows .exit)) (λ q i. partialRow (now (partials .entry)) s q i) k m ⌝ }
 {
     let mut q = 0;
@@ -115,8 +117,8 @@ fn rows_of(rows: &mut [f32; 128], partials: &[f32; 2048], s: Sides, k: usize, m:
 
 // A single voice has one row of coefficients, a blend one for each channel.
 fn rows_in(blend: u32, k: usize) -> usize
-    requires { ⌜ k ≤ 4 ⌝ }
-    ensures { λ r. ⌜ (r ≡ pick (eqb blend 0) 1 k) × (r ≤ 4) ⌝ }
+    requires { ⌜ k ≤ maxBlended ⌝ }
+    ensures { λ r. ⌜ (r ≡ pick (eqb blend 0) 1 k) × (r ≤ maxBlended) ⌝ }
 {
     if blend == 0 { 1 } else { k }
 }
@@ -136,9 +138,9 @@ pub fn tune(
     mainlobe_gain: &[f32; 16],
     partials: &[f32; 2048],
 ) -> Tuning
-    requires { ⌜ (1 ≤ count) × (count ≤ 16) × (every (λ i. pitchOk (getD (now «f0_hz») i nan)) count ≡ true) ×
+    requires { ⌜ (1 ≤ count) × (count ≤ maxEntries) × (every (λ i. pitchOk (getD (now «f0_hz») i nan)) count ≡ true) ×
         (every (λ i. stretchOk (getD (now stretch) i nan)) count ≡ true) × Within 20000 1 f0 ⌝ }
-    requires { ⌜ (x .m ≤ 32) × (x .k ≤ 4) × Within 1 4096 (x .inv) ⌝ }
+    requires { ⌜ (x .m ≤ maxPartials) × (x .k ≤ maxBlended) × Within 1 4096 (x .inv) ⌝ }
     requires { ⌜ (eq f0 (t .f0) ≡ true → Tuned x count (now «f0_hz») (now stretch) (now «mainlobe_gain») (now partials) f0 (now incs)
         (now fades) (now rows) t) ⌝ }
     ensures { λ r. ⌜ Tuned x count (now («f0_hz» .entry)) (now (stretch .entry)) (now («mainlobe_gain» .entry)) (now (partials .entry)) f0
@@ -172,8 +174,8 @@ pub fn tune_noise(
     noise: &[f32; 1024],
     live: &[u8; 16],
 ) -> NoiseTuning
-    requires { ⌜ (1 ≤ count) × (count ≤ 16) × (every (λ i. pitchOk (getD (now «f0_hz») i nan)) count ≡ true) × Within 20000 1 f0 ⌝ }
-    requires { ⌜ (x .k ≤ 4) × («live_count» ≤ 16) × LiveIn (now live) «live_count» ⌝ }
+    requires { ⌜ (1 ≤ count) × (count ≤ maxEntries) × (every (λ i. pitchOk (getD (now «f0_hz») i nan)) count ≡ true) × Within 20000 1 f0 ⌝ }
+    requires { ⌜ (x .k ≤ maxBlended) × («live_count» ≤ maxBands) × LiveIn (now live) «live_count» ⌝ }
     requires { ⌜ (eq f0 (was .f0) ≡ true → NoiseTuned x count «live_count» (now «f0_hz») (now «noise_gain») (now noise) (now live) f0
         (now rows) was) ⌝ }
     ensures { λ r. ⌜ NoiseTuned x count «live_count» (now («f0_hz» .entry)) (now («noise_gain» .entry)) (now (noise .entry))

@@ -1,5 +1,6 @@
 // Replays lists of the original's answers beside the library, and compares them bit for bit (any NaN is like any other).
-// compare/driver wrote the lists in data/; data/README says how. In a damaged list each record has one wrong answer: every one must be found.
+// compare/driver wrote the lists in data/; data/README says how.
+// In a damaged list each record has one wrong answer: every one must be found.
 mod list;
 mod places;
 mod playing;

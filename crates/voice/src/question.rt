@@ -7,6 +7,7 @@ ghost use Rattle.voice.specs.Lists.{every};
 ghost use Rattle.voice.specs.Input.{call, inputOk, inputsOf, frequencyOk, frequenciesOk};
 ghost use Rattle.voice.specs.Voice.{rulesOf};
 ghost use Rattle.voice.specs.Question.{ask, blockOk, callQuestion};
+ghost use Rattle.voice.specs.Limits.{maxSamples};
 use crate::limits::MAX_CHANNELS;
 use crate::limits::MAX_HZ;
 use crate::limits::MAX_SAMPLES;
@@ -69,7 +70,7 @@ fn block_ok(samples: usize, channels: usize, len: usize) -> bool
 
 // Question 15 of an input of k channels.
 fn input_ok(k: usize, samples: usize, len: usize) -> bool
-    requires { ⌜ samples ≤ 128 ⌝ }
+    requires { ⌜ samples ≤ maxSamples ⌝ }
     ensures { λ r. ⌜ r ≡ inputOk k samples len ⌝ }
 {
     if k == 0 {
@@ -90,7 +91,7 @@ fn inputs_ok(
     g2_len: usize,
     g3_len: usize,
 ) -> bool
-    requires { ⌜ b .samples ≤ 128 ⌝ }
+    requires { ⌜ b .samples ≤ maxSamples ⌝ }
     ensures { λ r. ⌜ r ≡ inputsOf b «freq_len» «g0_len» «g1_len» «g2_len» «g3_len» ⌝ }
 {
     let f = input_ok(b.freq, b.samples, freq_len);

@@ -7,6 +7,7 @@ ghost use lib.Ieee.{nan};
 ghost use lib.Dec.{leb, ltb};
 ghost use Rattle.voice.specs.Lists.{every};
 ghost use Rattle.voice.specs.Voice.{phaseOk, pitchOk, stretchOk, rateOk, pitchesAscend, bandsAscend, phasesOk, rulesOf, keepsRules};
+ghost use Rattle.voice.specs.Limits.{maxEntries, maxPartials, maxBands, maxBlended};
 use crate::limits::MAX_BANDS;
 use crate::limits::MAX_BLENDED;
 use crate::limits::MAX_ENTRIES;
@@ -50,7 +51,7 @@ pub fn rate_ok(rate: f32) -> bool
 }
 
 fn phases_ok(phases: &[f32; 32], m: usize) -> bool
-    requires { ⌜ m ≤ 32 ⌝ }
+    requires { ⌜ m ≤ maxPartials ⌝ }
     ensures { λ r. ⌜ r ≡ phasesOk (now (phases .entry)) m ⌝ }
 {
     let mut ok = true;
@@ -63,7 +64,7 @@ fn phases_ok(phases: &[f32; 32], m: usize) -> bool
 }
 
 fn pitches_ok(f0_hz: &[f32; 16], count: usize) -> bool
-    requires { ⌜ count ≤ 16 ⌝ }
+    requires { ⌜ count ≤ maxEntries ⌝ }
     ensures { λ r. ⌜ r ≡ every (λ i. pitchOk (getD (now («f0_hz» .entry)) i nan)) count ⌝ }
 {
     let mut ok = true;
@@ -76,7 +77,7 @@ fn pitches_ok(f0_hz: &[f32; 16], count: usize) -> bool
 }
 
 fn stretches_ok(stretch: &[f32; 16], count: usize) -> bool
-    requires { ⌜ count ≤ 16 ⌝ }
+    requires { ⌜ count ≤ maxEntries ⌝ }
     ensures { λ r. ⌜ r ≡ every (λ i. stretchOk (getD (now (stretch .entry)) i nan)) count ⌝ }
 {
     let mut ok = true;
@@ -89,7 +90,7 @@ fn stretches_ok(stretch: &[f32; 16], count: usize) -> bool
 }
 
 fn pitches_ascend(f0_hz: &[f32; 16], count: usize) -> bool
-    requires { ⌜ count ≤ 16 ⌝ }
+    requires { ⌜ count ≤ maxEntries ⌝ }
     ensures { λ r. ⌜ r ≡ pitchesAscend (now («f0_hz» .entry)) count ⌝ }
 {
     let mut ok = true;
@@ -102,7 +103,7 @@ fn pitches_ascend(f0_hz: &[f32; 16], count: usize) -> bool
 }
 
 fn live_below(live: &[u8; 16], n: usize, j: usize) -> bool
-    requires { ⌜ n ≤ 16 ⌝ }
+    requires { ⌜ n ≤ maxBands ⌝ }
     ensures { λ r. ⌜ r ≡ every (λ i. ltb (getD (now (live .entry)) i 0) j) n ⌝ }
 {
     let mut ok = true;
@@ -115,7 +116,7 @@ fn live_below(live: &[u8; 16], n: usize, j: usize) -> bool
 }
 
 fn bands_ascend(live: &[u8; 16], n: usize) -> bool
-    requires { ⌜ n ≤ 16 ⌝ }
+    requires { ⌜ n ≤ maxBands ⌝ }
     ensures { λ r. ⌜ r ≡ bandsAscend (now (live .entry)) n ⌝ }
 {
     let mut ok = true;
@@ -128,7 +129,8 @@ fn bands_ascend(live: &[u8; 16], n: usize) -> bool
 }
 
 fn counts_ok(count: usize, m: usize, j: usize, k: usize, live_count: usize) -> bool
-    ensures { λ r. ⌜ r ≡ leb count 16 && (leb m 32 && (leb j 16 && (leb k 4 && leb «live_count» 16))) ⌝ }
+    ensures { λ r. ⌜ r ≡ leb count maxEntries
+        && (leb m maxPartials && (leb j maxBands && (leb k maxBlended && leb «live_count» maxBands))) ⌝ }
 {
     both(
         count <= MAX_ENTRIES,

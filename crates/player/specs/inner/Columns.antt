@@ -13,10 +13,11 @@ use Rattle.voice.specs.Lists.{steps}
 use Rattle.voice.specs.Voice.{bandAt, memoryAt, withMemory}
 use Rattle.filters.specs.declared.biquad.BiquadCoeffs.{BiquadCoeffs}
 use Rattle.filters.specs.declared.biquad.BiquadState.{BiquadState}
+use Rattle.voice.specs.Limits.{maxBands}
 
 -- each of the first n is one of 16 bands
 pub record LiveIn (live : List ℕ) (n : ℕ) : Type 0 where
-  pub below : (l : ℕ) → l < n → getD live l 0 < 16
+  pub below : (l : ℕ) → l < n → getD live l 0 < maxBands
 
 -- place l of two columns, and of five rows of 32 places
 abbrev pub stateOfColumns : List Float → List Float → ℕ → BiquadState

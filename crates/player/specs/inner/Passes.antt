@@ -16,18 +16,19 @@ use Rattle.player.specs.inner.Columns.{LiveIn}
 use Rattle.filters.specs.declared.rng.Rng.{Rng}
 use Rattle.voice.specs.declared.voice.Setting.{Setting}
 use Rattle.voice.specs.declared.voice.Voice.{Voice}
+use Rattle.voice.specs.Limits.{maxEntries, maxPartials, maxBands, maxBlended}
 
 -- ---- what of the voice rules playing needs
 -- of the entries, so that every frequency can be looked up and gives steps that a phase can gain
 pub record EntriesFit (s : Setting) (lists : List Float) : Type 0 where
-  pub sizes : (s .count ≤ 16) × (s .m ≤ 32) × (s .k ≤ 4)
+  pub sizes : (s .count ≤ maxEntries) × (s .m ≤ maxPartials) × (s .k ≤ maxBlended)
   pub pitches-ok : every (λ i. pitchOk (getD (listAt lists 0) i nan)) (s .count) ≡ true
   pub stretches-ok : every (λ i. stretchOk (getD (listAt lists 1) i nan)) (s .count) ≡ true
   pub rate : Rate (s .«sample_rate»)
 
 -- of the live bands: each is one of 16, and none comes twice
 pub record LiveFit (s : Setting) : Type 0 where
-  pub most : s .«live_count» ≤ 16
+  pub most : s .«live_count» ≤ maxBands
   pub inside : LiveIn (s .live) (s .«live_count»)
   pub ascend : bandsAscend (s .live) (s .«live_count») ≡ true
 

@@ -19,6 +19,7 @@ use Rattle.player.specs.declared.constants.Constants.{Constants}
 use Rattle.player.specs.declared.pitch.kept.Pitch.{Pitch}
 use Rattle.player.specs.declared.tuning.NoiseTuning.{NoiseTuning}
 use Rattle.player.specs.declared.tuning.Tuning.{Tuning}
+use Rattle.voice.specs.Limits.{maxEntries}
 
 -- p is what the frequency f0 decides of a sample by itself: its sides, and the values between them
 pub record PitchAt (pitches stretches mainlobes : List Float) (count : ℕ) (f0 : Float) (p : Pitch) : Type 0 where
@@ -26,7 +27,7 @@ pub record PitchAt (pitches stretches mainlobes : List Float) (count : ℕ) (f0 
   pub sides-are : p .s ≡ sidesOf (bracketOf pitches count f0)
   pub stretch-is : p .stretch ≡ between stretches (p .s)
   pub mainlobe-is : p .mainlobe ≡ between mainlobes (p .s)
-  pub inside : SidesIn 16 (p .s)
+  pub inside : SidesIn maxEntries (p .s)
   pub small : Within 8 1 (p .stretch)
 
 -- a single voice has one row of coefficients, a blend one for each of its channels

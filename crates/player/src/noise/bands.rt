@@ -5,6 +5,7 @@ ghost use lib.ListN.{length, getD};
 ghost use lib.Ieee.{nan};
 ghost use Rattle.voice.specs.Lists.{Filled, FilledRows};
 ghost use Rattle.player.specs.inner.Columns.{LiveIn, Memories, Coeffs, Ticked, scattered};
+ghost use Rattle.voice.specs.Limits.{maxBands};
 use voice::band_of;
 
 // The memories of the live bands, which lie two a band in 32 places.
@@ -15,7 +16,7 @@ pub fn gather_memories(
     live: &[u8; 16],
     n: usize,
 )
-    requires { ⌜ (n ≤ 16) × LiveIn (now live) n ⌝ }
+    requires { ⌜ (n ≤ maxBands) × LiveIn (now live) n ⌝ }
     ensures { λ r. ⌜ Memories (now (z1 .exit)) (now (z2 .exit)) (now (memories .entry)) (now (live .entry)) n
         × (length (now (memories .entry)) ≡ 32) ⌝ }
 {
@@ -33,8 +34,8 @@ pub fn gather_memories(
 
 // Row q, after the q rows before it: their coefficient q, in the order b0, b1, b2, a1, a2.
 fn gather_row(coeffs: &mut [f32; 160], lists: &[f32; 160], live: &[u8; 16], q: usize, n: usize)
-    requires { ⌜ (q < 5) × (n ≤ 16) × LiveIn (now live) n × FilledRows (now coeffs) (λ q l. getD (now lists) (64 + getD (now live) l 0 * 5
-        + q) nan) q n ⌝ }
+    requires { ⌜ (q < 5) × (n ≤ maxBands) × LiveIn (now live) n
+        × FilledRows (now coeffs) (λ q l. getD (now lists) (64 + getD (now live) l 0 * 5 + q) nan) q n ⌝ }
     ensures { λ r. ⌜ FilledRows (now (coeffs .exit)) (λ q l. getD (now (lists .entry)) (64 + getD (now (live .entry)) l 0 * 5 + q) nan)
         (q + 1) n ⌝ }
 {
@@ -50,7 +51,7 @@ fn gather_row(coeffs: &mut [f32; 160], lists: &[f32; 160], live: &[u8; 16], q: u
 
 // Their coefficients, in five rows.
 pub fn gather_coeffs(coeffs: &mut [f32; 160], lists: &[f32; 160], live: &[u8; 16], n: usize)
-    requires { ⌜ (n ≤ 16) × LiveIn (now live) n ⌝ }
+    requires { ⌜ (n ≤ maxBands) × LiveIn (now live) n ⌝ }
     ensures { λ r. ⌜ Coeffs (now (coeffs .exit)) (now (lists .entry)) (now (live .entry)) n ⌝ }
 {
     let mut q = 0;
@@ -62,7 +63,7 @@ pub fn gather_coeffs(coeffs: &mut [f32; 160], lists: &[f32; 160], live: &[u8; 16
 
 // Their compensations.
 pub fn gather_makeup(makeup: &mut [f32; 32], compensation: &[f32; 16], live: &[u8; 16], n: usize)
-    requires { ⌜ (n ≤ 16) × LiveIn (now live) n ⌝ }
+    requires { ⌜ (n ≤ maxBands) × LiveIn (now live) n ⌝ }
     ensures { λ r. ⌜ Filled (now (makeup .exit)) (λ l. getD (now (compensation .entry)) (getD (now (live .entry)) l 0) nan) n ⌝ }
 {
     let s = &mut makeup[..];
@@ -108,7 +109,7 @@ pub fn scatter_memories(
     z2: &[f32; 32],
     n: usize,
 )
-    requires { ⌜ (n ≤ 16) × LiveIn (now live) n ⌝ }
+    requires { ⌜ (n ≤ maxBands) × LiveIn (now live) n ⌝ }
     ensures { λ r. ⌜ now (memories .exit) ≡ scattered (now (live .entry)) (now (z1 .entry)) (now (z2 .entry)) (now (memories .entry)) n ⌝ }
 {
     let s = &mut memories[..];

@@ -13,6 +13,7 @@ ghost use Rattle.player.specs.inner.Columns.{LiveIn, singleTerm, blendTe
 ghost use Rattle.player.specs.inner.Terms.{noiseAdded};
 ghost use Rattle.filters.specs.Rng.{nextBipolar};
 ghost use Rattle.player.specs.Sound.{addNoiseSingle, addNoiseBlend, blendPower, noiseRow, noiseIn};
+ghost use Rattle.voice.specs.Limits.{maxEntries, maxBands, maxBlended};
 use crate::columns::fill;
 use crate::columns::sum_of;
 use crate::pitch::bracket::Sides;
@@ -44,8 +45,8 @@ fn noise_row(
     q: usize,
     n: usize,
 )
-    requires { ⌜ SidesIn 16 s × (q < 4) × (n ≤ 16) × LiveIn (now live) n × FilledRows (now rows) (λ q l. noiseRow (now noise) s q
-        (getD (now live) l 0)) q n ⌝ }
+    requires { ⌜ SidesIn maxEntries s × (q < maxBlended) × (n ≤ maxBands) × LiveIn (now live) n
+        × FilledRows (now rows) (λ q l. noiseRow (now noise) s q (getD (now live) l 0)) q n ⌝ }
     ensures { λ r. ⌜ FilledRows (now (rows .exit)) (λ q l. noiseRow (now (noise .entry)) s q (getD (now (live .entry)) l 0)) (q + 1) n ⌝ }
 {
     let places = &mut rows[..];
@@ -69,7 +70,7 @@ pub fn noise_rows(
     k: usize,
     n: usize,
 )
-    requires { ⌜ SidesIn 16 s × (k ≤ 4) × (n ≤ 16) × LiveIn (now live) n ⌝ }
+    requires { ⌜ SidesIn maxEntries s × (k ≤ maxBlended) × (n ≤ maxBands) × LiveIn (now live) n ⌝ }
     ensures { λ r. ⌜ FilledRows (now (rows .exit)) (λ q l. noiseRow (now (noise .entry)) s q (getD (now (live .entry)) l 0)) k n ⌝ }
 {
     let mut q = 0;
@@ -106,7 +107,7 @@ fn single_terms<'a>(
 
 // Channel q's squares, added to the powers.
 fn add_powers(powers: &mut [f32; 32], rows: &[f32; 128], gain: f32, q: usize, n: usize)
-    requires { ⌜ (q < 4) × (n ≤ 32) ⌝ }
+    requires { ⌜ (q < maxBlended) × (n ≤ 32) ⌝ }
     ensures { λ r. ⌜ Filled (now (powers .exit)) (λ l. getD (now (powers .entry)) l nan ⊕ (gain ⊗ getD (now (rows .entry)) (q * 32 + l)
         nan) ⊗ (gain ⊗ getD (now (rows .entry)) (q * 32 + l) nan)) n ⌝ }
 {
@@ -128,7 +129,7 @@ fn blend_powers<'a>(
     k: usize,
     n: usize,
 )
-    requires { ⌜ (k ≤ 4) × (n ≤ 32) ⌝ }
+    requires { ⌜ (k ≤ maxBlended) × (n ≤ 32) ⌝ }
     ensures { λ r. ⌜ Filled (now (powers .exit)) (λ l. blendPower (λ q. getD (now (rows .entry)) (q * 32 + l) nan) (now (gains .entry)) k)
         n ⌝ }
 {
@@ -188,7 +189,7 @@ pub fn noise_sum<'a>(
     ys: &'a [f32; 32],
     n: usize,
 ) -> f32
-    requires { ⌜ (n ≤ 16) × (k ≤ 4) ⌝ }
+    requires { ⌜ (n ≤ maxBands) × (k ≤ maxBlended) ⌝ }
     ensures { λ r. ⌜ r ≡ steps
         (λ l y. noiseAdded blend k (now (rows .entry)) (now (gains .entry)) «noise_gain» (now (makeup .entry)) (now (ys .entry)) l y)
         y n ⌝ }

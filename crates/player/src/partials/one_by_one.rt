@@ -18,6 +18,7 @@ ghost use Rattle.player.specs.Phase.{advanceOf, partialFreq, stepOf};
 ghost use Rattle.player.specs.Bracket.{SidesIn};
 ghost use Rattle.player.specs.Sound.{addSingle, addBlend, blendCoeff, partialRow};
 ghost use Rattle.player.specs.inner.Terms.{sampleAdded};
+ghost use Rattle.voice.specs.Limits.{maxEntries, maxPartials, maxBlended};
 use crate::constants::Constants;
 use crate::constants::constants_of;
 use crate::input::frequency_at;
@@ -43,7 +44,8 @@ fn sample_of<'a>(
     v: Constants,
     p: Pitch,
 ) -> f32
-    requires { ⌜ Table (now wave) × SidesIn 16 (p .s) × (v .k ≤ 4) × (v .m ≤ 32) × (phasesOk (now phases) (v .m) ≡ true) ⌝ }
+    requires { ⌜ Table (now wave) × SidesIn maxEntries (p .s) × (v .k ≤ maxBlended) × (v .m ≤ maxPartials)
+        × (phasesOk (now phases) (v .m) ≡ true) ⌝ }
     requires { ⌜ Within 20000 1 (p .f0) × Within 8 1 (p .stretch) × Within 1 4096 (v .inv) ⌝ }
     ensures { λ r. ⌜ r ≡ steps
         (λ i y. sampleAdded v p (now (partials .entry)) (now (gains .entry)) (now (phases .entry)) i y) (nearest 0 1) (v .m) ⌝ }

@@ -4,6 +4,7 @@ ghost use mathlib.Core.Bool.{true};
 ghost use Prim.Native.Nat.{_≤_};
 ghost use Rattle.player.specs.Phase.{Step, advanceOf, partialFreq};
 ghost use Rattle.voice.specs.Voice.{phaseOk};
+ghost use Rattle.voice.specs.Limits.{maxPartials};
 use crate::partials::floor::floor;
 
 // Most steps are small: the whole part is 0 or 1.
@@ -23,7 +24,7 @@ pub fn advance(ph: f32, inc: f32) -> f32
 
 // The frequency of partial m, counted from 1.
 pub fn partial_freq(m: u32, f0: f32, stretch: f32) -> f32
-    requires { ⌜ m ≤ 32 ⌝ }
+    requires { ⌜ m ≤ maxPartials ⌝ }
     ensures { λ r. ⌜ r ≡ partialFreq m f0 stretch ⌝ }
 {
     (m as f32) * f0 * stretch

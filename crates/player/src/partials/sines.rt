@@ -9,6 +9,7 @@ ghost use Rattle.voice.specs.Lists.{Filled};
 ghost use Rattle.wave_table.specs.Wave.{Waves};
 ghost use Rattle.filters.specs.Wave.{restOf, sineOf};
 ghost use Rattle.player.specs.inner.Sines.{cellFloat, indexOf, startOf, riseOf, lineAt, AllCells};
+ghost use Rattle.voice.specs.Limits.{maxPartials};
 use crate::partials::floor::floor;
 
 // The cell of each phase, and what is left of its place.
@@ -73,7 +74,7 @@ pub fn sines_of<'a>(
     wave: &'a [f32; 1025],
     m: usize,
 )
-    requires { ⌜ Waves (now wave) × (m ≤ 32) × AllPhases (now phases) m ⌝ }
+    requires { ⌜ Waves (now wave) × (m ≤ maxPartials) × AllPhases (now phases) m ⌝ }
     ensures { λ r. ⌜ Filled (now (sines .exit)) (λ i. sineOf (getD (now (phases .entry)) i nan)) m ⌝ }
 {
     places(cells, rests, phases, m);

@@ -10,6 +10,7 @@ ghost use Rattle.voice.specs.Lists.{Filled, steps};
 ghost use Rattle.player.specs.Sound.{blendCoeff};
 ghost use Rattle.player.specs.inner.Columns.{audible};
 ghost use Rattle.player.specs.inner.Terms.{partialAdded};
+ghost use Rattle.voice.specs.Limits.{maxPartials, maxBlended};
 use crate::columns::fill;
 use crate::columns::sum_of;
 
@@ -23,7 +24,7 @@ fn terms_single<'a>(
     sines: &'a [f32; 32],
     m: usize,
 )
-    requires { ⌜ m ≤ 32 ⌝ }
+    requires { ⌜ m ≤ maxPartials ⌝ }
     ensures { λ r. ⌜ Filled (now (terms .exit)) (λ i. audible (getD (now (rows .entry)) i nan) (getD (now (rows .entry)) i nan ⊗ mainlobe
         ⊗ getD (now (fades .entry)) i nan ⊗ gain ⊗ getD (now (sines .entry)) i nan)) m ⌝ }
 {
@@ -46,7 +47,7 @@ fn terms_blend<'a>(
     sines: &'a [f32; 32],
     m: usize,
 )
-    requires { ⌜ m ≤ 32 ⌝ }
+    requires { ⌜ m ≤ maxPartials ⌝ }
     ensures { λ r. ⌜ Filled (now (terms .exit)) (λ i. audible (getD (now (coeffs .entry)) i nan) (getD (now (coeffs .entry)) i nan ⊗
         mainlobe ⊗ getD (now (fades .entry)) i nan ⊗ getD (now (sines .entry)) i nan)) m ⌝ }
 {
@@ -63,7 +64,7 @@ fn terms_blend<'a>(
 
 // One channel's share of every coefficient.
 fn add_row(coeffs: &mut [f32; 32], rows: &[f32; 128], q: usize, gain: f32, m: usize)
-    requires { ⌜ (q < 4) × (m ≤ 32) ⌝ }
+    requires { ⌜ (q < maxBlended) × (m ≤ maxPartials) ⌝ }
     ensures { λ r. ⌜ Filled (now (coeffs .exit)) (λ i. getD (now (coeffs .entry)) i nan ⊕ gain ⊗ getD (now (rows .entry)) (q * 32 + i)
         nan) m ⌝ }
 {
@@ -84,7 +85,7 @@ fn blend_coeffs<'a>(
     k: usize,
     m: usize,
 )
-    requires { ⌜ (k ≤ 4) × (m ≤ 32) ⌝ }
+    requires { ⌜ (k ≤ maxBlended) × (m ≤ maxPartials) ⌝ }
     ensures { λ r. ⌜ Filled (now (coeffs .exit)) (λ i. blendCoeff (λ q. getD (now (rows .entry)) (q * 32 + i) nan) (now (gains .entry)) k)
         m ⌝ }
 {
@@ -109,7 +110,7 @@ pub fn partial_sum<'a>(
     k: usize,
     m: usize,
 ) -> f32
-    requires { ⌜ (k ≤ 4) × (m ≤ 32) ⌝ }
+    requires { ⌜ (k ≤ maxBlended) × (m ≤ maxPartials) ⌝ }
     ensures { λ r. ⌜ r ≡ steps
         (λ i y. partialAdded blend k (now (rows .entry)) mainlobe (now (fades .entry)) (now (gains .entry)) (now (sines .entry)) i y)
         (nearest 0 1) m ⌝ }

@@ -9,6 +9,7 @@ ghost use Rattle.voice.specs.Lists.{every};
 ghost use Rattle.player.specs.Share.{shareOf};
 ghost use Rattle.voice.specs.Voice.{pitchOk};
 ghost use Rattle.player.specs.Bracket.{notAbove, bracketOf, sidesOf, SidesIn, between};
+ghost use Rattle.voice.specs.Limits.{maxEntries};
 
 // One entry by its index, or two neighbours with the share between them.
 pub enum Bracket {
@@ -25,7 +26,7 @@ pub struct Sides {
 
 // One more than the index of the last of the first n pitches that is not above f0; 0 where there is none.
 fn not_above(f0_hz: &[f32; 16], n: usize, f0: f32) -> usize
-    requires { ⌜ n ≤ 16 ⌝ }
+    requires { ⌜ n ≤ maxEntries ⌝ }
     ensures { λ r. ⌜ (r ≡ notAbove (now («f0_hz» .entry)) f0 n) × (r ≤ n) ⌝ }
 {
     let mut k = n;
@@ -47,7 +48,7 @@ fn share(lo: f32, f0: f32, hi: f32) -> f32
 }
 
 pub fn bracket_at(f0_hz: &[f32; 16], count: usize, f0: f32) -> Bracket
-    requires { ⌜ (1 ≤ count) × (count ≤ 16) × (every (λ i. pitchOk (getD (now «f0_hz») i nan)) count ≡ true) × Within 20000 1 f0 ⌝ }
+    requires { ⌜ (1 ≤ count) × (count ≤ maxEntries) × (every (λ i. pitchOk (getD (now «f0_hz») i nan)) count ≡ true) × Within 20000 1 f0 ⌝ }
     ensures { λ r. ⌜ r ≡ bracketOf (now («f0_hz» .entry)) count f0 ⌝ }
     ensures { λ r. ⌜ SidesIn count (sidesOf r) × Within 1 1 (sidesOf r .t) ⌝ }
 {
@@ -82,7 +83,7 @@ pub fn both_sides(b: Bracket) -> Sides
 
 // The sides of f0 among count pitches.
 pub fn sides_at(f0_hz: &[f32; 16], count: usize, f0: f32) -> Sides
-    requires { ⌜ (1 ≤ count) × (count ≤ 16) × (every (λ i. pitchOk (getD (now «f0_hz») i nan)) count ≡ true) × Within 20000 1 f0 ⌝ }
+    requires { ⌜ (1 ≤ count) × (count ≤ maxEntries) × (every (λ i. pitchOk (getD (now «f0_hz») i nan)) count ≡ true) × Within 20000 1 f0 ⌝ }
     ensures { λ r. ⌜ r ≡ sidesOf (bracketOf (now («f0_hz» .entry)) count f0) ⌝ }
     ensures { λ r. ⌜ SidesIn count r × Within 1 1 (r .t) ⌝ }
 {
@@ -91,7 +92,7 @@ pub fn sides_at(f0_hz: &[f32; 16], count: usize, f0: f32) -> Sides
 
 // A value between those of the two sides.
 pub fn value_between(l: &[f32; 16], s: Sides) -> f32
-    requires { ⌜ SidesIn 16 s ⌝ }
+    requires { ⌜ SidesIn maxEntries s ⌝ }
     ensures { λ r. ⌜ r ≡ between (now (l .entry)) s ⌝ }
 {
     let lo = s.lo;
