@@ -2,7 +2,7 @@
 ghost use mathlib.Core.Path.{_≡_};
 ghost use Rattle.filters.specs.Rate.{Rate};
 ghost use Rattle.filters.specs.Biquad.{noiseBand};
-ghost use Rattle.filters.specs.Band.{bandCompensation, bandAt};
+ghost use Rattle.filters.specs.Band.{zeroCoeffs, bandCompensation, bandAt};
 ghost use Rattle.filters.specs.declared.band.Band.{Band};
 use crate::biquad::BiquadCoeffs;
 use crate::biquad::band_center;
@@ -38,23 +38,31 @@ fn band_of(raw: f32, sample_rate: f32) -> Band
     }
 }
 
+// The band that lets nothing through.
+pub fn zero_coeffs() -> BiquadCoeffs
+    ensures { λ r. ⌜ r ≡ zeroCoeffs ⌝ }
+{
+    BiquadCoeffs {
+        b0: 0.0,
+        b1: 0.0,
+        b2: 0.0,
+        a1: 0.0,
+        a2: 0.0,
+    }
+}
+
 // The band whose centre is raw, which is held to its limits; all zero at a rate that no voice can have.
 pub fn init_band(raw: f32, sample_rate: f32) -> Band
     ensures { λ r. ⌜ r ≡ bandAt raw «sample_rate» ⌝ }
 {
+    let coeffs = zero_coeffs();
     if 8000.0 <= sample_rate {
         if sample_rate <= 192000.0 {
             return band_of(raw, sample_rate);
         }
     }
     Band {
-        coeffs: BiquadCoeffs {
-            b0: 0.0,
-            b1: 0.0,
-            b2: 0.0,
-            a1: 0.0,
-            a2: 0.0,
-        },
+        coeffs,
         compensation: 0.0,
     }
 }

@@ -9,6 +9,7 @@ mod whole;
 
 pub use band::Band;
 pub use band::init_band;
+pub use band::zero_coeffs;
 pub use biquad::BiquadCoeffs;
 pub use biquad::BiquadState;
 pub use biquad::Tick;

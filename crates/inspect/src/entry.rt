@@ -1,6 +1,7 @@
 // The entries of a table in words.
 use console::say;
 use table::Found;
+use table::desk::larger;
 use table::entry::EntryRead;
 use table::entry::EntryView;
 use table::entry::entry_at;
@@ -33,10 +34,6 @@ fn one(image: &[u8], i: usize, v: EntryView) {
     metadata(image, v, b", mainlobe_gain ", b"mainlobe_gain");
     metadata(image, v, b", noise_gain ", b"noise_gain");
     say::text(1, b"\n");
-}
-
-fn larger(a: u32, b: u32) -> u32 {
-    if a < b { b } else { a }
 }
 
 // Says every entry of an accepted image, and answers the largest channel count of them. An entry is looked for where the one before it

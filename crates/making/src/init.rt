@@ -4,27 +4,15 @@ ghost use Prim.Native.Nat.{_≤_};
 ghost use lib.ListN.{length};
 ghost use mathlib.Core.Bool.{true};
 ghost use Rattle.voice.specs.Voice.{rateOk};
-ghost use Rattle.filters.specs.Band.{zeroCoeffs};
 ghost use Rattle.making.specs.inner.Columns.{bandsFrom};
 ghost use Rattle.voice.specs.Limits.{maxBands};
 use filters::BiquadCoeffs;
 use filters::init_band;
+use filters::zero_coeffs;
 
 pub struct Bands {
     pub coeffs: [BiquadCoeffs; 16],
     pub compensation: [f32; 16],
-}
-
-fn zero_coeffs() -> BiquadCoeffs
-    ensures { λ r. ⌜ r ≡ zeroCoeffs ⌝ }
-{
-    BiquadCoeffs {
-        b0: 0.0,
-        b1: 0.0,
-        b2: 0.0,
-        a1: 0.0,
-        a2: 0.0,
-    }
 }
 
 pub fn init(sample_rate: f32, centres: &[f32]) -> Bands

@@ -5,6 +5,7 @@ use crate::options::Options;
 use crate::sink::Sink;
 use crate::sink::send;
 use sounder::voices::sounder_play;
+use table::desk::larger;
 use voice::Shape;
 use voice::Voice;
 
@@ -45,10 +46,6 @@ fn bits(x: f32) -> u32 {
         return 0x7fc0_0000;
     }
     f32::to_bits(x)
-}
-
-fn larger(a: u32, b: u32) -> u32 {
-    if a < b { b } else { a }
 }
 
 fn peak_of(samples: &[f32; 128], n: usize, before: u32) -> u32 {

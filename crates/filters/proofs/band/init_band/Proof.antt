@@ -6,14 +6,19 @@ use Rattle.filters.proofs.Tests.{rate-is}
 use Rattle.filters.proofs.band.init_band.Statement.{statement}
 use Rattle.filters.proofs.band.init_band.Tie as tie
 
--- src/band.rt:47:13
+-- src/band.rt:58:18
+zero-coeffs-requires : tie.Need-zero-coeffs-requires
+zero-coeffs-requires c κs =
+    tt
+
+-- src/band.rt:61:13
 band-of-requires : tie.Need-band-of-requires
 unfolding ofBits round
 band-of-requires c κs =
     let b1 = c .before in
     rate-is _ (subst T (sym (b1 .if1 .taken)) tt) (subst T (sym (c .if2 .taken)) tt)
 
--- src/band.rt:47:13
+-- src/band.rt:61:13
 returns : tie.Need-returns
 unfolding bandAt ofBits round
 returns c =
@@ -21,18 +26,20 @@ returns c =
     let b2 = b1 .before in
     rw (b2 .if1 .taken, b1 .if2 .taken) (c .band-of .ensures)
 
--- src/band.rt:42:1
+-- src/band.rt:56:1
 returns-2 : tie.Need-returns-2
 unfolding bandAt ofBits round
 returns-2 c =
     let b1 = c .before in
-    rw (b1 .if1 .taken, c .if2 .left) refl
+    let b2 = b1 .before in
+    rw (b1 .if1 .taken, c .if2 .left, b2 .zero-coeffs .ensures) refl
 
--- src/band.rt:42:1
+-- src/band.rt:56:1
 returns-3 : tie.Need-returns-3
 unfolding bandAt ofBits round
 returns-3 c =
-    rw (c .if1 .left) refl
+    let b1 = c .before in
+    rw (c .if1 .left, b1 .zero-coeffs .ensures) refl
 
 pub init-band-spec : {M : Type 1} → statement M
-init-band-spec = tie.close (tie.spec band-of-requires returns returns-2 returns-3)
+init-band-spec = tie.close (tie.spec zero-coeffs-requires band-of-requires returns returns-2 returns-3)

@@ -1,9 +1,9 @@
 use mathlib.Core.Path.{refl}
 use lib.Ieee.{ofBits, round}
-use Rattle.making.proofs.init.zero_coeffs.Statement.{statement}
-use Rattle.making.proofs.init.zero_coeffs.Tie as tie
+use Rattle.filters.proofs.band.zero_coeffs.Statement.{statement}
+use Rattle.filters.proofs.band.zero_coeffs.Tie as tie
 
--- src/init.rt:21:1
+-- src/band.rt:21:1
 returns : tie.Need-returns
 unfolding ofBits round
 returns c =
