@@ -1,9 +1,9 @@
 -- The f32 of a decimal number.
-use Prim.Native.Nat.{ℕ, _+_, _-_, _/_, _%_, _^_, min, compare}
+use Prim.Native.Nat.{ℕ, _+_, _-_, _/_, _%_, _^_, min}
 use mathlib.Core.Bool.{Bool, true, false, cond}
 use lib.Dec.{ltb, leb}
 use lib.IntN.{pos}
-use lib.Ieee.{Float, fin, binary32, binary64, nearest, ofInt, ofBits, toBits, div, lt, neg}
+use lib.Ieee.{Float, fin, binary32, binary64, ofInt, ofBits, toBits, div, lt, neg}
 use Rattle.console.specs.declared.decimal.Decimal.{Decimal}
 
 -- A pattern of an f64 from 2^-126 to below 2^127 as an f32's: the last 29 digits go, ties to even, and the exponent's field,

@@ -1,4 +1,4 @@
--- Bounds of a player's numbers: a ratio in [0, 1], a value between two, a step of the phase. Assumes nothing.
+-- Bounds of a player's numbers: a ratio in [0, 1], a value between two, a whole number. Assumes nothing.
 use mathlib.Core.Path.{_≡_, refl, sym, ap, _∙_, subst}
 use mathlib.Core.Logic.{_⊎_, inl, inr}
 use Prim.Native.Nat.{ℕ, zero, suc, _+_, _-_, _*_, _^_, _≤_, _<_}
@@ -6,7 +6,7 @@ use native.Mathlib.Nat.{le-refl, le-trans, le-of-eq, le-of-lt, lt-of-lt-of-le, l
 use native.Mathlib.Omega.{arith}
 use mathlib.Core.Bool.{Bool, true, false, cond}
 use lib.IntN.{pos, negsuc}
-use lib.Dec.{T, ltb, leb, lt→ltb, leb→le, le→leb, lit≤, lit<}
+use lib.Dec.{T, ltb, leb, lt→ltb, leb→le, le→leb, lit<}
 use lib.Pow.{pow-pos, pow-add, pow-lt}
 use lib.Ieee.{Float, nan, inf, fin, Format, prec, emax, low, binary32, up, down, odd, units, round, sum, add, sub, mul, div, neg, le, ofInt, fits}
 use lib.Ieee.Exact.{HasValue}
@@ -14,7 +14,7 @@ use lib.Ieee.Back.{round-whole}
 use lib.Ieee.Order.{round-mono}
 use lib.Ieee.Positive.{num, den, den-pos, first-pos}
 use Rattle.float.specs.Range.{plain, Within}
-use Rattle.float.proofs.Within.{Holds, value-plain, value-cross, value-within, add-within, mul-within, div-within, sub-within, sub-is, le→cross, fits-holds, fitting}
+use Rattle.float.proofs.Within.{Holds, value-within, add-within, mul-within, div-within, sub-within, sub-is, le→cross, fits-holds, fitting}
 use Rattle.float.specs.Range.{UpTo}
 use Rattle.float.specs.Lerp.{lerp}
 
@@ -120,35 +120,13 @@ lerp-within a b lo hi t F v w h L H S = go (le-or-lt (num lo * den hi) (num hi *
         ∙ add-neg binary32 lo (mul binary32 t u) in
         subst (λ (z : Float). Within b 1 z) (sym e) (sub-within binary32 lo (mul binary32 t u) a 1 b 1 (lit< tt) (lit< tt) w L (W .plain-is) (W .upper) (less a b h))
 
--- ---- the step of the phase: ((m * f0) * stretch) * (1 / sr)
-abbrev pub stepOf : ℕ → Float → Float → ℕ → Float
-stepOf m f0 stretch sr = mul binary32 (mul binary32 (mul binary32 (ofInt binary32 (pos m)) f0) stretch) (div binary32 (fin false 1 (pos 0)) (ofInt binary32 (pos sr)))
-
+-- ---- a whole number as a float
 pub int-value : (n : ℕ) → n ≤ 16777216 → HasValue (ofInt binary32 (pos n)) false n 1
 unfolding ofInt
 int-value n h = round-whole binary32 false n h
 
 pub int-within : (n a : ℕ) → n ≤ a → a ≤ 16777216 → Within a 1 (ofInt binary32 (pos n))
 int-within n a h k = value-within (ofInt binary32 (pos n)) n 1 a 1 (lit< tt) (lit< tt) (int-value n (le-trans h k)) (mul-le-mul-right 1 h)
-
--- 1 / sr, for an sr from 8000 up
-pub inverse-within : (sr : ℕ) → 8000 ≤ sr → sr ≤ 16777216 → Within 1 4096 (div binary32 (fin false 1 (pos 0)) (ofInt binary32 (pos sr)))
-unfolding round
-inverse-within sr l u =
-    let y = ofInt binary32 (pos sr) in
-    let v : HasValue y false sr 1 = int-value sr u in
-    let c : num y * 1 ≡ sr * den y = value-cross y sr 1 v in
-    let N : 0 < num y = first-pos (num y) 1 (lt-of-lt-of-le (mul-pos (lt-of-lt-of-le (lit< tt) l) (den-pos y)) (le-of-eq (sym c))) in
-    div-within binary32 (fin false 1 (pos 0)) y 1 1 8000 1 1 4096 (lit< tt) (lit< tt) (lit< tt) (refl, refl)
-    (record { plain-is = tt; upper = lit≤ tt }) (value-plain y sr 1 v) N (le-trans (mul-le-mul-right (den y) l) (le-of-eq (sym c))) (lit≤ tt)
-
-pub step-within : (m : ℕ) (f0 stretch : Float) (sr : ℕ) → m ≤ 32 → Within 20000 1 f0 → Within 8 1 stretch → 8000 ≤ sr → sr ≤ 192000 → Within 1250 1 (stepOf m f0 stretch sr)
-unfolding round
-step-within m f0 stretch sr M F S l u =
-    let A = int-within m 32 M (lit≤ tt) in
-    let B : Within 640000 1 (mul binary32 (ofInt binary32 (pos m)) f0) = mul-within binary32 _ _ 32 1 20000 1 640000 1 (lit< tt) (lit< tt) (lit< tt) (refl, refl) A F (lit≤ tt) in
-    let C : Within 5120000 1 (mul binary32 (mul binary32 (ofInt binary32 (pos m)) f0) stretch) = mul-within binary32 _ _ 640000 1 8 1 5120000 1 (lit< tt) (lit< tt) (lit< tt) (refl, refl) B S (lit≤ tt) in
-    mul-within binary32 _ _ 5120000 1 1 4096 1250 1 (lit< tt) (lit< tt) (lit< tt) (refl, refl) C (inverse-within sr l (le-trans u (lit≤ tt))) (lit≤ tt)
 
 -- ---- a difference of two values that differ is not rounded to 0
 pow-le-back : (i j : ℕ) → 2 ^ i ≤ 2 ^ j → i ≤ j
@@ -239,12 +217,3 @@ ratio-within lo f0 hi s t u p q r l h =
         (lt-of-le-of-lt (mul-le-mul-right r h)
         (lt-of-le-of-lt (le-of-eq (mul-right-comm y p r))
         (lt-of-lt-of-le (mul-lt-mul-of-pos-right k P) (le-of-eq (mul-right-comm z q p))))))
-
--- ---- a product with a factor of at most 1 is no larger: a decay
-pub decay-up-to : (t x : Float) → T (fits binary32 x) → T (plain x) → Within 1 1 t → UpTo x (mul binary32 t x)
-decay-up-to t x F p S =
-    let D = den-pos x in
-    mul-within binary32 t x 1 1 (num x) (den x) (num x) (den x) (lit< tt) D D (fits-holds binary32 x F p) S (up-to-self x p) (one-of (num x) (den x))
-  where
-    one-of : (a c : ℕ) → 1 * a * c ≤ a * (1 * c)
-    one-of a c = simp (mul-assoc, mul-left-comm) (omega arith)

@@ -1,17 +1,17 @@
 -- The order of finite floats, and what it says of their bounds. Assumes nothing.
 use mathlib.Core.Path.{_≡_, sym, subst}
 use mathlib.Core.Logic.{inl, inr}
-use Prim.Native.Nat.{ℕ, _+_, _*_, _≤_, _<_}
-use native.Mathlib.Nat.{le-trans, le-of-eq, le-of-lt, le-refl, lt-of-le-of-lt, lt-of-lt-of-le, mul-right-comm, mul-le-mul-right, mul-lt-mul-of-pos-right, lt-of-mul-lt-mul-right, eq-or-lt-of-le}
+use Prim.Native.Nat.{ℕ, _+_, _*_, _≤_}
+use native.Mathlib.Nat.{le-trans, le-of-eq, le-of-lt, eq-or-lt-of-le}
 use native.Mathlib.Omega.{arith}
 use mathlib.Core.Bool.{Bool, true, false, not, _&&_, _||_, Bool·beq}
 use lib.Dec.{T, ltb, eqb, eqb-refl, lt→ltb, nltb→le}
 use lib.Ieee.{Float, nan, inf, fin, up, down, lt, le, below, level}
 use lib.Ieee.Fits.{and-i, eq→eqb}
 use lib.Ieee.Scale.{finite}
-use lib.Ieee.Positive.{num, den, den-pos, positive, through, above, above-of-le}
+use lib.Ieee.Positive.{num, den, positive, above, above-of-le}
 use Rattle.float.specs.Range.{plain, Within, Below, AtLeast}
-use Rattle.float.proofs.Within.{le→cross, lt→cross, cross→le}
+use Rattle.float.proofs.Within.{le→cross}
 use Rattle.float.proofs.Subnormal.{positive-plain}
 
 -- ---- of two finite floats of either sign, one is at most the other
@@ -89,26 +89,7 @@ pub lt-le : (x y : Float) → T (lt x y) → T (le x y)
 unfolding le
 lt-le x y h = or-left (lt x y) _ h
 
--- ---- with no sign: the order goes through, and moves bounds
-pub le-self : (x : Float) → T (plain x) → T (le x x)
-le-self x p = cross→le x x p p (le-refl (num x * den x))
-
-pub le-within : (a c : ℕ) (x y : Float) → T (plain x) → T (le x y) → Within a c y → Within a c x
-le-within a c x y p h w = record { plain-is = p; upper = through (num x) (num y) a (den x) (den y) c (den-pos y) (le→cross x y p (w .plain-is) h) (w .upper) }
-
--- a bound that is a float's own value is the order
-pub within-le : (x y : Float) → T (plain y) → Within (num y) (den y) x → T (le x y)
-within-le x y q w = cross→le x y (w .plain-is) q (w .upper)
-
-pub le-upto : (x y : Float) → T (plain x) → T (plain y) → T (le x y) → Within (num y) (den y) x
-le-upto x y p q h = record { plain-is = p; upper = le→cross x y p q h }
-
-pub le-through : (x y z : Float) → T (plain x) → T (plain y) → T (plain z) → T (le x y) → T (le y z) → T (le x z)
-le-through x y z p q r h k = within-le x z r (le-within (num z) (den z) x y p h (le-upto y z q r k))
-
-pub at-least-le : (x y : Float) → T (plain y) → AtLeast (num y) (den y) x → T (le y x)
-at-least-le x y q w = cross→le y x q (w .plain-is) (w .lower)
-
+-- ---- with no sign: the order is a bound
 pub le-at-least : (x y : Float) → T (plain x) → T (plain y) → T (le y x) → AtLeast (num y) (den y) x
 le-at-least x y p q h = record { plain-is = p; lower = le→cross y x q p h }
 
@@ -122,46 +103,5 @@ finite-above (fin false m e) f a = tt
 pub over-positive : (x y : Float) → T (finite x) → T (positive y) → T (le y x) → AtLeast (num y) (den y) x
 over-positive x y f p h = le-at-least x y (finite-above x f (above-of-le y x p h)) (positive-plain y p) h
 
--- what is above a float with no sign has none
-pub over-plain : (x y : Float) → T (finite x) → T (plain y) → T (lt y x) → AtLeast (num y) (den y) x
-unfolding lt
-over-plain x y f p h = record { plain-is = unsigned x y f p h; lower = le-of-lt (lt→cross y x p (unsigned x y f p h) h) }
-  where
-    unsigned : (x y : Float) → T (finite x) → T (plain y) → T (lt y x) → T (plain x)
-    unsigned nan y f p h = absurd f
-    unsigned (inf s) y f p h = absurd f
-    unsigned (fin false m e) y f p h = tt
-    unsigned (fin true m e) nan f p h = absurd p
-    unsigned (fin true m e) (inf t) f p h = absurd p
-    unsigned (fin true m e) (fin true n d) f p h = absurd p
-    unsigned (fin true m e) (fin false n d) f p h = absurd h
-
--- ---- wider bounds
-pub widen-within : (a c b d : ℕ) (x : Float) → 0 < c → Within a c x → a * d ≤ b * c → Within b d x
-widen-within a c b d x C w h = record { plain-is = w .plain-is; upper = through (num x) a b (den x) c d C (w .upper) h }
-
 pub below-within : (a c : ℕ) (x : Float) → Below a c x → Within a c x
 below-within a c x w = record { plain-is = w .plain-is; upper = le-of-lt (w .strict) }
-
-pub within-below : (a c b d : ℕ) (x : Float) → 0 < c → Within a c x → a * d < b * c → Below b d x
-within-below a c b d x C w h = record { plain-is = w .plain-is; strict = through-lt (num x) a b (den x) c d (den-pos x) (w .upper) h }
-  where
-    through-lt : (x y z p q r : ℕ) → 0 < p → x * q ≤ y * p → y * r < z * q → x * r < z * p
-    through-lt x y z p q r P h k =
-        lt-of-mul-lt-mul-right q
-        (lt-of-le-of-lt (le-of-eq (mul-right-comm x r q))
-        (lt-of-le-of-lt (mul-le-mul-right r h)
-        (lt-of-le-of-lt (le-of-eq (mul-right-comm y p r))
-        (lt-of-lt-of-le (mul-lt-mul-of-pos-right k P) (le-of-eq (mul-right-comm z q p))))))
-
-pub widen-below : (a c b d : ℕ) (x : Float) → 0 < c → 0 < d → Below a c x → a * d ≤ b * c → Below b d x
-widen-below a c b d x C D w h = record {
-  plain-is = w .plain-is;
-  strict = lt-of-mul-lt-mul-right c (lt-of-lt-of-le (lt-of-le-of-lt (le-of-eq (mul-right-comm (num x) d c)) (mul-lt-mul-of-pos-right (w .strict) D)) (chain (den x)));
-}
-  where
-    chain : (n : ℕ) → a * n * d ≤ b * n * c
-    chain n = subst (λ (l : ℕ). l ≤ b * n * c) (mul-right-comm a d n) (subst (λ (r : ℕ). a * d * n ≤ r) (mul-right-comm b c n) (mul-le-mul-right n h))
-
-pub widen-at-least : (a c b d : ℕ) (x : Float) → 0 < c → AtLeast a c x → b * c ≤ a * d → AtLeast b d x
-widen-at-least a c b d x C w h = record { plain-is = w .plain-is; lower = through b a (num x) d c (den x) C h (w .lower) }

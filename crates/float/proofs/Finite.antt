@@ -1,7 +1,7 @@
 -- Tests of a float that may be anything. Assumes nothing.
 use mathlib.Core.Path.{_≡_, refl, sym, ap, _∙_, subst}
 use Prim.Native.Nat.{ℕ, zero, suc, _+_, _-_, _*_, _%_, _^_, _≤_, _<_}
-use native.Mathlib.Nat.{le-of-lt, lt-irrefl, mul-pos, zero-mul, mul-one, zero-lt-suc, sub-self}
+use native.Mathlib.Nat.{lt-irrefl, mul-pos, zero-mul, mul-one, zero-lt-suc, sub-self}
 use native.Mathlib.Omega.{arith}
 use mathlib.Core.Bool.{Bool, true, false, not, _&&_, _||_, cond, Bool·beq}
 use lib.IntN.{pos}
@@ -12,9 +12,6 @@ use lib.Ieee.Fits.{down-pos}
 use lib.Ieee.Bits.{nanBits-is, nanBits-above, is-true, is-false}
 use lib.Ieee.Exact.{HasValue, round-exact}
 use lib.Ieee.Scale.{finite}
-use lib.Ieee.Positive.{num, den}
-use Rattle.float.specs.Range.{plain, Within}
-use Rattle.float.proofs.Within.{lt→cross}
 
 -- a test that is true
 pub shown : (b : Bool) → b ≡ true → T b
@@ -63,22 +60,6 @@ finite-test (fin s m e) =
     let C : 0 < c = mul-pos (down-pos e) (down-pos e) in
     ap (λ (z : Float). eq z (fin false 0 (pos 0))) (level-sum binary32 s (m * up e * down e) c)
     ∙ zero-eq (round binary32 false 0 c) c C (zero-holds binary32 false c C)
-
--- ---- 0 < x < y
-pub above-zero : (x y : Float) → lt (fin false 0 (pos 0)) x ≡ true → lt x y ≡ true → T (plain y) → T (plain x)
-unfolding lt
-above-zero nan y h k p = absurd (subst T (sym h) tt)
-above-zero (inf s) nan h k p = absurd p
-above-zero (inf s) (inf t) h k p = absurd p
-above-zero (inf true) (fin t n d) h k p = absurd (subst T (sym h) tt)
-above-zero (inf false) (fin t n d) h k p = absurd (subst T (sym k) tt)
-above-zero (fin true m e) y h k p = absurd (subst T (sym h) tt)
-above-zero (fin false m e) y h k p = tt
-
-pub between-within : (x y : Float) → lt (fin false 0 (pos 0)) x ≡ true → lt x y ≡ true → T (plain y) → Within (num y) (den y) x
-between-within x y h k p =
-    let q : T (plain x) = above-zero x y h k p in
-    record { plain-is = q; upper = le-of-lt (lt→cross x y q p (subst T (sym k) tt)) }
 
 -- ---- 0 < x: no NaN
 pub above-no-nan : (x : Float) → lt (fin false 0 (pos 0)) x ≡ true → T (not (isNan x))

@@ -1,38 +1,24 @@
--- A phase: the step `ph + inc` less its whole part, as Rust's `*ph += inc; *ph -= ph.floor();` at floats with no sign.
+-- A float less its whole part, as Rust's `*ph -= ph.floor();`, at floats with no sign: the subtraction is exact.
 -- Assumes nothing.
 use mathlib.Core.Path.{_≡_, refl, sym, ap, _∙_, subst}
 use Prim.Native.Nat.{ℕ, zero, suc, _+_, _-_, _*_, _/_, _%_, _^_, _≤_, _<_, min}
-use native.Mathlib.Nat.{le-trans, le-of-eq, le-of-lt, lt-of-lt-of-le, lt-of-le-of-lt, mul-comm, mul-assoc, mul-left-comm, mul-le-mul-right, mul-lt-mul-of-pos-right, lt-of-mul-lt-mul-right, mul-pos, zero-lt-suc, mul-one, one-mul, mul-sub, mod-lt, mod-le, mod-one, zero-mod, zero-mul, div-mul-le-self, mod-eq-sub-div-mul, div-le-of-le-mul, le-add-right, div-eq-of-lt, div-eq-of-lt-le, lt-of-not-le, le-of-suc-le-suc}
+use native.Mathlib.Nat.{le-trans, le-of-eq, lt-of-lt-of-le, lt-of-le-of-lt, mul-comm, mul-assoc, mul-left-comm, mul-le-mul-right, mul-lt-mul-of-pos-right, mul-pos, zero-lt-suc, mul-one, one-mul, mul-sub, mod-le, mod-one, zero-mod, zero-mul, div-mul-le-self, mod-eq-sub-div-mul, div-le-of-le-mul, le-add-right, div-eq-of-lt, div-eq-of-lt-le, lt-of-not-le, le-of-suc-le-suc}
 use native.Mathlib.Omega.{arith}
 use mathlib.Core.Bool.{true, false}
 use lib.IntN.{pos, negsuc}
-use lib.Dec.{T, lt→ltb, le→leb, lit≤, lit<}
+use lib.Dec.{T, lt→ltb, lit≤, lit<}
 use lib.Pow.{pow-pos}
-use lib.Ieee.{Float, nan, inf, fin, binary32, up, down, round, add, sub, le, lt, ofInt, toUnsigned, fits, inFloat}
-use lib.Ieee.Fits.{down-pos, add-fits}
+use lib.Ieee.{Float, nan, inf, fin, binary32, up, down, round, sub, le, lt, ofInt, toUnsigned, fits}
+use lib.Ieee.Fits.{down-pos}
 use lib.Ieee.Exact.{HasValue, round-exact}
 use lib.Ieee.Back.{round-whole}
 use lib.Ieee.Order.{transfer}
 use lib.Ieee.Scale.{round-same}
 use lib.Ieee.Positive.{num, den, den-pos}
 use Rattle.float.specs.Range.{plain, Within}
-use Rattle.float.proofs.Within.{Holds, fitting, value-plain, value-cross, add-within, sub-is, holds-at, cross→lt, cross→le, lt→cross, le→cross}
+use Rattle.float.proofs.Within.{Holds, fitting, value-plain, value-cross, sub-is, holds-at, cross→lt, cross→le, lt→cross, le→cross}
 use Rattle.float.proofs.Unique.{round-self}
 use Rattle.float.specs.Fraction.{fraction}
-use Rattle.float.specs.Range.{Below}
-
--- ---- the definitions
-
-abbrev pub advanceOf : Float → Float → Float
-advanceOf ph inc = fraction (add binary32 ph inc)
-
--- a phase is in [0, 1)
-abbrev pub Phase : Float → Type 0
-Phase x = Below 1 1 x
-
--- a step is in [0, 2 ^ 20]
-abbrev pub Step : Float → Type 0
-Step x = Within 1048576 1 x
 
 -- ---- the whole part
 capped : (a c : ℕ) → a ≤ 16777216 → 16777216 ≤ c - 1 → min a (c - 1) ≡ a
@@ -94,43 +80,9 @@ fraction-value x t h =
     (sym (ap (λ (n : ℕ). sub binary32 x (round binary32 false n 1)) (whole-is 64 x (lit≤ tt) h) ∙ s))
     (rest-holds x t (h .plain-is))
 
-value-below : (x : Float) (b d : ℕ) → 0 < d → HasValue x false b d → b < d → Below 1 1 x
-value-below x b d D v h = record {
-  plain-is = value-plain x b d v;
-  strict = lt-of-mul-lt-mul-right d (lt-of-le-of-lt (le-of-eq (ap (λ (z : ℕ). z * d) (mul-one (num x)) ∙ value-cross x b d v))
-      (lt-of-lt-of-le (mul-lt-mul-of-pos-right h (den-pos x)) (le-of-eq (mul-comm d (den x) ∙ ap (λ (z : ℕ). z * d) (sym (one-mul (den x)))))));
-}
-
--- ---- the step
-pub sum-within : (ph inc : Float) → Phase ph → Step inc → Within 1048577 1 (add binary32 ph inc)
-unfolding round
-sum-within ph inc p i =
-    add-within binary32 ph inc 1 1 1048576 1 1048577 1 (lit< tt) (lit< tt) (lit< tt) (refl, refl) (record { plain-is = p .plain-is; upper = le-of-lt (p .strict) }) i (lit≤ tt)
-
+-- a wider bound
 pub widen : (a b : ℕ) (x : Float) → a ≤ b → Within a 1 x → Within b 1 x
 widen a b x h w = record { plain-is = w .plain-is; upper = le-trans (w .upper) (mul-le-mul-right (den x) h) }
-
--- LAW: a phase steps to a phase, and but for the sum itself the step is exact
-pub advance-exact : (ph inc : Float) → Phase ph → Step inc
-    → HasValue (advanceOf ph inc) false (num (add binary32 ph inc) % den (add binary32 ph inc)) (den (add binary32 ph inc))
-advance-exact ph inc p i = fraction-value (add binary32 ph inc) (add-fits binary32 ph inc) (widen 1048577 16777216 (add binary32 ph inc) (lit≤ tt) (sum-within ph inc p i))
-
-pub advance-phase : (ph inc : Float) → Phase ph → Step inc → Phase (advanceOf ph inc)
-advance-phase ph inc p i =
-    let x = add binary32 ph inc in
-    value-below (advanceOf ph inc) (num x % den x) (den x) (den-pos x) (advance-exact ph inc p i) (mod-lt (num x) (den-pos x))
-
--- the same in the words of the comparisons: 0 ≤ r and r < 1
-pub advance-range : (ph inc : Float) → Phase ph → Step inc → T (le (fin false 0 (pos 0)) (advanceOf ph inc)) × T (lt (advanceOf ph inc) (fin false 1 (pos 0)))
-advance-range ph inc p i =
-    let r = advanceOf ph inc in
-    let q : Phase r = advance-phase ph inc p i in (
-      cross→le (fin false 0 (pos 0)) r tt (q .plain-is) (le-trans (le-of-eq (ap (λ (z : ℕ). z * den r) (zero-mul 1) ∙ zero-mul (den r))) (low0 (num r * 1))),
-      cross→lt r (fin false 1 (pos 0)) (q .plain-is) tt (q .strict),
-    )
-  where
-    low0 : (n : ℕ) → 0 ≤ n
-    low0 n = omega arith
 
 -- ---- what the casts ask
 pub above-minus-one : (x : Float) → T (plain x) → T (lt (fin true 1 (pos 0)) x)
@@ -143,15 +95,8 @@ above-minus-one (fin false m e) p = lt→ltb 0 (1 * 1 * down e + m * up e * 1) (
 pub under-top : (x : Float) → Within 16777216 1 x → T (lt x (fin false 1 (pos 64)))
 under-top x h = cross→lt x (fin false 1 (pos 64)) (h .plain-is) tt (lt-of-le-of-lt (h .upper) (mul-lt-mul-of-pos-right (lit< tt) (den-pos x)))
 
-pub whole-in-float : (x : Float) → Within 16777216 1 x → T (inFloat binary32 (pos (toUnsigned 64 x)))
-unfolding inFloat
-whole-in-float x h = le→leb (toUnsigned 64 x) (2 ^ 24) (le-trans (le-of-eq (whole-is 64 x (lit≤ tt) h)) (whole-le x h))
-
 pub whole-small : (x : Float) → Within 16777216 1 x → toUnsigned 64 x ≤ 16777216
 whole-small x h = le-trans (le-of-eq (whole-is 64 x (lit≤ tt) h)) (whole-le x h)
-
-pub sum-small : (ph inc : Float) → Phase ph → Step inc → Within 16777216 1 (add binary32 ph inc)
-sum-small ph inc p i = widen 1048577 16777216 (add binary32 ph inc) (lit≤ tt) (sum-within ph inc p i)
 
 -- ---- where the whole part is 0 or 1
 abbrev pub one : Float

@@ -14,7 +14,6 @@ pub mod Subnormal
 pub mod Operands
 pub mod Nearest
 pub mod Compare
-pub mod Exact
 pub mod Identities
 pub mod AtLeast
 pub mod RootBounds

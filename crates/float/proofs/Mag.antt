@@ -1,19 +1,18 @@
 -- Floats of either sign, by their size: finite, and at most a / c either way. What the operations do to such a bound. Assumes nothing.
 use mathlib.Core.Path.{sym, subst}
 use Prim.Native.Nat.{ℕ, suc, _+_, _-_, _*_, _≤_, _<_}
-use native.Mathlib.Nat.{le-trans, le-of-eq, le-of-lt, le-refl, add-mul, add-le-add, mul-comm, mul-assoc, mul-left-comm, mul-le-mul-right, mul-le-mul, mul-pos, mul-mul-mul-comm}
+use native.Mathlib.Nat.{le-trans, le-of-eq, add-mul, add-le-add, mul-comm, mul-assoc, mul-left-comm, mul-le-mul-right, mul-le-mul, mul-pos, mul-mul-mul-comm}
 use native.Mathlib.Omega.{arith}
-use mathlib.Core.Logic.{_⊎_, inl, inr}
 use mathlib.Core.Bool.{Bool, true, false, _&&_, cond, Bool·beq}
 use lib.IntN.{ℤ, pos, negsuc, natAbs}
 use lib.Dec.{T, ltb, lit<}
-use lib.Ieee.{Float, nan, inf, fin, Format, up, down, unlike, round, sum, add, sub, mul, neg, ofInt}
+use lib.Ieee.{Float, nan, inf, fin, Format, up, down, unlike, round, sum, add, mul, neg, ofInt}
 use lib.Ieee.Fits.{down-pos}
 use lib.Ieee.Scale.{finite}
-use lib.Ieee.Positive.{num, den, through}
+use lib.Ieee.Positive.{through}
 use Rattle.float.specs.Range.{plain, Within}
-use Rattle.float.proofs.Within.{Holds, round-within, sub-within}
-use Rattle.float.proofs.Bounds.{round-neg, le-or-lt, sub-swap}
+use Rattle.float.proofs.Within.{Holds, round-within}
+use Rattle.float.proofs.Bounds.{round-neg}
 use Rattle.float.specs.Range.{Mag}
 
 plain-finite : (x : Float) → T (plain x) → T (finite x)
@@ -29,9 +28,6 @@ unfolding neg
 neg-mag a c nan w = absurd (w .finite-is)
 neg-mag a c (inf s) w = absurd (w .finite-is)
 neg-mag a c (fin s m e) w = record { finite-is = tt; upper = w .upper }
-
-pub widen-mag : (a b c d : ℕ) (x : Float) → 0 < c → Mag a c x → a * d ≤ b * c → Mag b d x
-widen-mag a b c d x C w h = record { finite-is = w .finite-is; upper = through (num x) a b (den x) c d C (w .upper) h }
 
 -- ---- a rounded fraction
 pub round-mag : (f : Format) (s : Bool) (n d a c : ℕ) → 0 < d → 0 < c → Holds f a c → n * c ≤ a * d → Mag a c (round f s n d)
@@ -70,10 +66,6 @@ add-mag f (fin s m e) (fin t n g) a c b d p q C D Q v X Y h =
     sum-mag f s (m * up e * down g) t (n * up g * down e) (down e * down g) p q (mul-pos (down-pos e) (down-pos g)) Q v
     (through (m * up e * down g + n * up g * down e) (a * d + b * c) p (down e * down g) (c * d) q (mul-pos C D) (sum-of (m * up e) (n * up g) (down e) (down g) a b c d (X .upper) (Y .upper)) h)
 
-pub sub-mag : (f : Format) (x y : Float) (a c b d p q : ℕ) → 0 < c → 0 < d → 0 < q → Holds f p q → Mag a c x → Mag b d y → (a * d + b * c) * q ≤ p * (c * d) → Mag p q (sub f x y)
-unfolding sub
-sub-mag f x y a c b d p q C D Q v X Y h = add-mag f x (neg y) a c b d p q C D Q v X (neg-mag b d y Y) h
-
 -- ---- a product
 pub mul-mag : (f : Format) (x y : Float) (a c b d p q : ℕ) → 0 < c → 0 < d → 0 < q → Holds f p q → Mag a c x → Mag b d y → a * b * q ≤ p * (c * d) → Mag p q (mul f x y)
 unfolding mul
@@ -91,13 +83,3 @@ pub int-mag : (f : Format) (z : ℤ) (a : ℕ) → Holds f a 1 → natAbs z ≤ 
 unfolding ofInt
 int-mag f (pos n) a v h = round-mag f false n 1 a 1 (lit< tt) (lit< tt) v (mul-le-mul-right 1 h)
 int-mag f (negsuc n) a v h = round-mag f true (suc n) 1 a 1 (lit< tt) (lit< tt) v (mul-le-mul-right 1 h)
-
--- ---- a difference of two numbers from 0 to a / c is no larger than that either way
-pub sub-within-mag : (f : Format) (x y : Float) (a c : ℕ) → 0 < c → Holds f a c → Within a c x → Within a c y → Mag a c (sub f x y)
-sub-within-mag f x y a c C v X Y = go (le-or-lt (num y * den x) (num x * den y))
-  where
-    go : (num y * den x ≤ num x * den y) ⊎ (num x * den y < num y * den x) → Mag a c (sub f x y)
-    go (inl l) = within-mag a c (sub f x y) (sub-within f x y a c a c C C v X (Y .plain-is) l (le-refl (a * c)))
-    go (inr l) =
-        subst (λ (z : Float). Mag a c z) (sym (sub-swap f x y (X .plain-is) (Y .plain-is) l))
-        (neg-mag a c (sub f y x) (within-mag a c (sub f y x) (sub-within f y x a c a c C C v Y (X .plain-is) (le-of-lt l) (le-refl (a * c)))))

@@ -3,21 +3,20 @@
 use mathlib.Core.Path.{_≡_, refl, sym, ap, _∙_, subst}
 use mathlib.Core.Logic.{_⊎_, inl, inr}
 use Prim.Native.Nat.{ℕ, zero, suc, _+_, _-_, _*_, _/_, _%_, _^_, _≤_, _<_}
-use native.Mathlib.Nat.{le-trans, le-of-eq, lt-of-le-of-lt, mul-one, mul-assoc, mul-comm, one-mul, mul-le-mul-right, le-of-mul-le-mul-right, pow-suc}
+use native.Mathlib.Nat.{le-trans, le-of-eq, mul-one, mul-assoc, mul-comm, one-mul, mul-le-mul-right, le-of-mul-le-mul-right, pow-suc}
 use native.Mathlib.Omega.{arith}
 use mathlib.Core.Bool.{Bool, true, false, not, cond}
-use lib.Dec.{T, leb, eqb, leb→le, le→leb, eqb→eq, not-T, lit≤}
-use lib.Pow.{pow-pos}
+use lib.Dec.{T, leb, eqb, leb→le, le→leb, eqb→eq, not-T}
 use lib.Ieee.{Float, nan, inf, fin, binary32, odd, ofFields, ofBits, toBits, nanBits, isNan, fits, lt}
 use lib.Ieee.Bits.{ofBits-toBits, nanBits-is, is-true, is-false}
 use lib.Ieee.Exact.{HasValue, odd-sign}
 use lib.Ieee.Fits.{and-l, and-r}
 use lib.Ieee.Positive.{num, den, den-pos}
-use Rattle.float.specs.Range.{plain, Within}
+use Rattle.float.specs.Range.{plain}
 use Rattle.float.specs.Sqrt.{smallest, normal}
 use Rattle.float.proofs.Bounds.{le-or-lt}
 use Rattle.float.proofs.Fraction.{not-lt}
-use Rattle.float.proofs.Within.{value-plain, value-cross, value-within, le→cross}
+use Rattle.float.proofs.Within.{value-plain, value-cross, le→cross}
 
 -- n is below a, or not
 either : (n a : ℕ) → (n < a) ⊎ (a ≤ n)
@@ -65,56 +64,6 @@ val-packed k h l u = go (either h 16777216)
     go : (h < 16777216) ⊎ (16777216 ≤ h) → val (k * 8388608 + h) ≡ h * 2 ^ k
     go (inl s) = let e = short k h l s in ap (λ (x : ℕ). place x ((k * 8388608 + h) % 8388608)) (e .0) ∙ ap (λ (m : ℕ). m * 2 ^ k) (e .1)
     go (inr s) = let e = long k h u s in ap (λ (x : ℕ). place x ((k * 8388608 + h) % 8388608)) (e .0) ∙ ap (λ (t : ℕ). place (suc (suc k)) t) (e .1) ∙ twice k ∙ ap (λ (m : ℕ). m * 2 ^ k) (e .2)
-
--- one more digit, and the carry into the field
-digit-up : (x t : ℕ) → place x t ≤ place x (suc t)
-digit-up zero t = omega arith
-digit-up (suc x) t = mul-le-mul-right (2 ^ x) (more t)
-  where
-    more : (t : ℕ) → 8388608 + t ≤ 8388608 + suc t
-    more t = omega arith
-
-carry-up : (x : ℕ) → place x 8388607 ≤ place (suc x) 0
-carry-up zero = lit≤ tt
-carry-up (suc x) = le-trans (mul-le-mul-right (2 ^ x) (lit≤ tt)) (le-of-eq (two x))
-  where
-    two : (x : ℕ) → 8388608 * 2 * 2 ^ x ≡ (8388608 + 0) * 2 ^ suc x
-    two x = mul-assoc 8388608 2 (2 ^ x) ∙ ap (λ (z : ℕ). 8388608 * z) (mul-comm 2 (2 ^ x) ∙ sym (pow-suc 2 x))
-
-val-up : (n : ℕ) → val n ≤ val (suc n)
-val-up n = go (either (suc (n % 8388608)) 8388608)
-  where
-    same : (n : ℕ) → suc (n % 8388608) < 8388608 → (n / 8388608 ≡ suc n / 8388608) × (suc (n % 8388608) ≡ suc n % 8388608)
-    same n h = (omega arith, omega arith)
-
-    full : (n : ℕ) → 8388608 ≤ suc (n % 8388608) → (n % 8388608 ≡ 8388607) × (suc (n / 8388608) ≡ suc n / 8388608) × (0 ≡ suc n % 8388608)
-    full n h = (omega arith, omega arith, omega arith)
-
-    go : (suc (n % 8388608) < 8388608) ⊎ (8388608 ≤ suc (n % 8388608)) → val n ≤ val (suc n)
-    go (inl h) =
-        let e = same n h in
-        le-trans (digit-up (n / 8388608) (n % 8388608)) (le-of-eq (ap (λ (t : ℕ). place (n / 8388608) t) (e .1) ∙ ap (λ (x : ℕ). place x (suc n % 8388608)) (e .0)))
-    go (inr h) =
-        let e = full n h in
-        le-trans (le-of-eq (ap (λ (t : ℕ). place (n / 8388608) t) (e .0)))
-        (le-trans (carry-up (n / 8388608)) (le-of-eq (ap (λ (x : ℕ). place x 0) (e .1) ∙ ap (λ (t : ℕ). place (suc n / 8388608) t) (e .2))))
-
--- LAW: a larger pattern has at least the number
-pub val-mono : (b c : ℕ) → b ≤ c → val b ≤ val c
-val-mono b c h = subst (λ (n : ℕ). val b ≤ val n) (whole b c h) (climb b (c - b))
-  where
-    whole : (b c : ℕ) → b ≤ c → b + (c - b) ≡ c
-    whole b c h = omega arith
-
-    none : (b : ℕ) → b ≡ b + 0
-    none b = omega arith
-
-    more : (b d : ℕ) → suc (b + d) ≡ b + suc d
-    more b d = omega arith
-
-    climb : (b d : ℕ) → val b ≤ val (b + d)
-    climb b zero = le-of-eq (ap val (none b))
-    climb b (suc d) = le-trans (climb b d) (le-trans (val-up (b + d)) (le-of-eq (ap val (more b d))))
 
 -- ---- from a pattern to its float
 fields : (n : ℕ) → ofBits binary32 n ≡ ofFields binary32 (leb 2147483648 n) (n % 2147483648 / 8388608) (n % 8388608)
@@ -232,7 +181,3 @@ plain-no-nan (fin s m e) p = tt
 
 pub pattern-no-nan : (n : ℕ) → n < 2139095040 → T (not (nanBits binary32 n))
 pattern-no-nan n h = subst (λ (b : Bool). T (not b)) (sym (nanBits-is binary32 n)) (plain-no-nan (ofBits binary32 n) (value-plain (ofBits binary32 n) (val n) (2 ^ 149) (pattern-is n h)))
-
--- LAW: a pattern up to b, as a whole number, has a value up to that of b: one test rules out a NaN, an infinity, a sign, -0 and what is too large
-pub pattern-within : (n b p q : ℕ) → n ≤ b → b < 2139095040 → 0 < q → val b * q ≤ p * 2 ^ 149 → Within p q (ofBits binary32 n)
-pattern-within n b p q h u Q g = value-within (ofBits binary32 n) (val n) (2 ^ 149) p q (pow-pos 149) Q (pattern-is n (lt-of-le-of-lt h u)) (le-trans (mul-le-mul-right q (val-mono n b h)) g)

@@ -152,9 +152,6 @@ scaled-range b = go (eqb (b / 8388608 % 2) 0)
     go true = (low2 b, high2 b)
     go false = (low b, high b)
 
-pub field-lt : (b : ℕ) → b < 2139095040 → b / 8388608 < 255
-field-lt b h = omega arith
-
 -- the significand is at most 2 ^ 24
 pub significand-small : (b : ℕ) → significand b ≤ 16777216
 significand-small b = let s = scaled-range b in half (root (scaled b)) (root-range (scaled b) (s .0) (s .1) .1)

@@ -1,7 +1,7 @@
 -- A value that its format holds is written in one way: two that fit, and have the same sign and size, are one. So what is exact is an equation.
 -- The bit pattern of a float is worked out from its size alone, and gives the float back. Assumes nothing.
 use mathlib.Core.Path.{_≡_, sym, ap, _∙_}
-use Prim.Native.Nat.{ℕ, suc, _+_, _-_, _*_, _/_, _%_, _^_}
+use Prim.Native.Nat.{ℕ, _+_, _-_, _*_, _/_, _^_}
 use native.Mathlib.Nat.{mul-right-comm}
 use mathlib.Core.Bool.{Bool, false, cond}
 use lib.IntN.{ℤ}
@@ -13,10 +13,7 @@ use lib.Ieee.Fits.{down-pos, round-fits}
 use lib.Ieee.Nearest.{div-same}
 use lib.Ieee.Positive.{num, den}
 use Rattle.float.specs.Range.{plain}
-use Rattle.float.proofs.Within.{on-plains, fitting, value-plain, value-cross, fits-holds}
-
-pub is-odd : (f : Format) (s : Bool) (m : ℕ) (e : ℤ) → T (fits f (fin s (suc m) e)) → suc m % 2 ≡ 1
-is-odd f s m e t = fitting f s m e t .odd-is
+use Rattle.float.proofs.Within.{on-plains, value-plain, value-cross, fits-holds}
 
 -- the pattern, from the size in units of the smallest value
 abbrev packed : Format → Bool → ℕ → ℕ

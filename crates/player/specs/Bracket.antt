@@ -1,7 +1,6 @@
 -- The entries between which a frequency lies: one, or two neighbours with the share t between them.
 use Prim.Native.Nat.{ℕ, zero, suc, _-_, _<_}
 use mathlib.Core.List.{List}
-use mathlib.Core.Bool.{Bool, true, false}
 use lib.ListN.{getD}
 use lib.Ieee.{Float, nan, le}
 use Rattle.wire.specs.Parse.{pick}

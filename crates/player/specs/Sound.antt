@@ -1,7 +1,6 @@
 -- One sample of a voice: what moves, and what is audible. The operations stand in the order of the Rust's `process`.
-use Prim.Native.Nat.{ℕ, zero, suc, _+_, _*_}
+use Prim.Native.Nat.{ℕ, _+_, _*_}
 use mathlib.Core.List.{List}
-use mathlib.Core.Bool.{Bool, true, false, cond}
 use lib.ListN.{getD}
 use lib.Dec.{eqb}
 use lib.Ieee.{Float, nan, ne}

@@ -1,6 +1,6 @@
 -- Question 7 in one pass over the entries: what the pass holds after each. Cited by private functions only.
 use Prim.Native.Nat.{ℕ, _+_}
-use mathlib.Core.List.{List, [], _∷_}
+use mathlib.Core.List.{List}
 use mathlib.Core.Bool.{_&&_}
 use lib.ListN.{length}
 use Rattle.wire.specs.Parse.{Parsed, ok, refused, pick}

@@ -1,12 +1,11 @@
 -- Reading: questions 1 to 7 over a whole image. 2 to 6 come in file order, 7 after all entries. Bytes after the last entry are ignored.
 use Prim.Native.Nat.{ℕ}
 use mathlib.Core.List.{List, []}
-use mathlib.Core.Bool.{Bool, true, false}
 use lib.ListN.{length}
 use lib.Dec.{leb}
-use Rattle.wire.specs.Parse.{Refusal, refusal, Parsed, ok, refused, Parser, then, pure, _>>=_, _>>_, asked, ask, many}
+use Rattle.wire.specs.Parse.{refusal, Parsed, ok, refused, Parser, pure, _>>=_, _>>_, ask}
 use Rattle.table.specs.Table.{CoeffTable, PitchEntry}
-use Rattle.table.specs.Image.{Header, header, entries}
+use Rattle.table.specs.Image.{header, entries}
 use Rattle.table.specs.Span.{askSpans}
 
 abbrev pub size : Parser ℕ

@@ -1,11 +1,10 @@
 -- The parts of an image in file order, little-endian, with questions 2 to 6 where they are asked.
 use Prim.Native.Nat.{ℕ, _+_, _*_}
 use mathlib.Core.List.{List, [], _∷_}
-use mathlib.Core.Bool.{Bool, true, false}
 use lib.ListN.{length}
 use lib.Dec.{leb, eqb}
-use Rattle.wire.specs.Parse.{Refusal, refusal, Parsed, ok, refused, Parser, then, pure, _>>=_, _>>_, asked, ask, many}
-use Rattle.wire.specs.Cursor.{Place, part, takeAt, u16, u32, string}
+use Rattle.wire.specs.Parse.{refusal, ok, Parser, pure, _>>=_, _>>_, ask, many}
+use Rattle.wire.specs.Cursor.{part, takeAt, u16, u32, string}
 use Rattle.table.specs.Table.{Pair, PitchEntry, same}
 
 -- the bytes of a part, and of a string

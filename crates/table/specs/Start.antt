@@ -1,5 +1,5 @@
 -- Where the entries of an image start.
-use Prim.Native.Nat.{ℕ, _+_}
+use Prim.Native.Nat.{_+_}
 use lib.ListN.{length}
 use Rattle.wire.specs.Parse.{Parsed, ok, refused}
 use Rattle.table.specs.Table.{CoeffTable}

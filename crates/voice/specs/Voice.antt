@@ -1,9 +1,9 @@
 -- A voice: its lists by their names, the voice rules, which question 13 asks, and its running state: another one, and the first.
 use Prim.Native.Nat.{ℕ, _+_, _-_, _*_}
 use mathlib.Core.List.{List}
-use mathlib.Core.Bool.{Bool, true, false, not, _&&_}
+use mathlib.Core.Bool.{Bool, _&&_}
 use lib.ListN.{getD, set, replicate}
-use lib.Dec.{leb, ltb, eqb}
+use lib.Dec.{leb, ltb}
 use lib.Ieee.{Float, nan, le, lt}
 use Rattle.float.specs.F32.{nearest}
 use Rattle.voice.specs.Lists.{every, upTo}

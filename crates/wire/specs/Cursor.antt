@@ -2,15 +2,13 @@
 -- Every answer of the code that is an enum is given its value and next position, or its refusal, by a definition here.
 use Prim.Native.Nat.{ℕ, _+_, _*_}
 use mathlib.Core.List.{List}
-use mathlib.Core.Bool.{Bool, true, false}
 use lib.ListN.{length, getD, take, drop}
 use lib.Dec.{leb}
-use Rattle.wire.specs.declared.cursor.Cursor.{Cursor}
 use Rattle.wire.specs.declared.cursor.Taken.{Taken}
 use Rattle.wire.specs.declared.cursor.U16Read.{U16Read}
 use Rattle.wire.specs.declared.cursor.U32Read.{U32Read}
 use Rattle.wire.specs.declared.cursor.StringRead.{StringRead}
-use Rattle.wire.specs.Parse.{Refusal, refusal, Parsed, ok, refused, Parser, pick, then, pure, _>>=_, _>>_, asked}
+use Rattle.wire.specs.Parse.{Refusal, refusal, Parsed, ok, refused, Parser, pick, _>>=_}
 use Rattle.wire.specs.Utf8.{utf8}
 
 -- question 2: are the bytes that the field needs there? Question 5: is the string UTF-8?

@@ -1,6 +1,5 @@
 -- What a frequency decides of a sample, as columns hold it while the frequency stays. Cited by private functions only.
 use mathlib.Core.Path.{_≡_}
-use mathlib.Core.Bool.{Bool, true, false}
 use mathlib.Core.List.{List}
 use Prim.Native.Nat.{ℕ, _+_}
 use lib.ListN.{getD}
