@@ -21,7 +21,8 @@ extern "C" {
  *   4 the version is neither 0 nor 1                   first: the version
  *   5 a string is not UTF-8
  *   6 an entry's coefficient count is not k * (M + j)  first: the entry's index
- *   7 the noise-band spans do not agree                first: the entry they go by, second: the entry that breaks the rule
+ *   7 the noise-band spans do not agree                first: the entry they go by (its own index where one of the
+ *                                                      two keys is missing), second: the entry that breaks the rule
  *   8 more than 16 entries, 32 partials or 16 bands
  *   9 a pitch, stretch, coefficient or gain            first: the entry's index
  *  10 no entry has the channel
@@ -68,7 +69,7 @@ struct sounder_state {
 };
 
 /* A voice: everything that a tone is made of. Places that are not in use are 0 in a fresh voice. A play leaves them as given; a reset
- * or a reseed writes all of the state. */
+ * writes all of the state, a reseed all memories and the noise number. */
 struct sounder_voice {
     uint32_t blend;    /* 0: a single voice of the channel below; else a blend */
     uint32_t channel;  /* a single voice's channel of the table */
@@ -139,12 +140,12 @@ struct sounder_answer sounder_to_bytes(const uint8_t *image, size_t image_len, u
 struct sounder_made_answer sounder_make(uint32_t kind, uint32_t channel, const uint8_t *image, size_t image_len, float sample_rate,
                                         const float *centres, size_t centres_len);
 
-/* Plays a block of the voice itself, which moves on; a refusal, whose number is answered, leaves it as it is. The output holds channel after
- * channel, shape.samples * shape.channels floats; an input its channels in the same way, and output channel n reads input channel n modulo
- * the input's channels. */
+/* Plays a block of the voice itself, which moves on, and answers 0; or answers the refusal's number, and then changes neither the
+ * voice nor the output. The output holds channel after channel, shape.samples * shape.channels floats; an input its channels in the
+ * same way, and output channel n reads input channel n modulo the input's channels. */
 uint32_t sounder_play_in(struct sounder_voice *voice, struct sounder_shape shape, const float *freq, size_t freq_len, const float *g0,
-                         size_t g0_len, const float *g1, size_t g1_len, const float *g2, size_t g2_len, const float *g3, size_t g3_len, float *out,
-                         size_t out_len);
+                         size_t g0_len, const float *g1, size_t g1_len, const float *g2, size_t g2_len, const float *g3, size_t g3_len,
+                         float *out, size_t out_len);
 
 /* The same of a voice by value: the answer has the voice to play on with. It copies some 13 KB in and out, which tells in short blocks. */
 struct sounder_played_answer sounder_play(struct sounder_voice voice, struct sounder_shape shape, const float *freq, size_t freq_len,
@@ -157,6 +158,9 @@ struct sounder_played_answer sounder_reset(struct sounder_voice voice);
 /* The seed is taken, the memories are 0, the phases kept. */
 struct sounder_played_answer sounder_reseed(struct sounder_voice voice, uint32_t seed);
 
+/* How loud white noise comes out of a band at centre freq with quality q: the sum of the squares of an impulse's response. n, the samples
+ * summed, is 25 * max(q * sample_rate / (pi * max(freq, 1)), 1), its whole part, held to 64 to 2,000,000, for every argument. The power is
+ * the sum itself, which may be infinite or no number. */
 struct sounder_noise_power sounder_noise_power_gain(float freq, float q, float sample_rate, struct sounder_biquad_coeffs coeffs);
 
 #ifdef __cplusplus

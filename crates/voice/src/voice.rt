@@ -23,7 +23,8 @@ pub struct Setting {
     pub live: [u8; 16],
 }
 
-// Places that are not in use are 0 in a fresh voice. A play leaves them as given; reset and reseed write all of the state.
+// Places that are not in use are 0 in a fresh voice. A play leaves them as given; a reset writes all of the state, a reseed
+// all memories and the noise number.
 #[repr(C)]
 pub struct Voice {
     pub set: Setting,
