@@ -1,14 +1,15 @@
 #!/usr/bin/env python3
-"""Checks what docs/PROOFS.md and README.md cite. Run it at the repository's root.
+"""Checks what docs/PROOFS.md, docs/ARCHITECTURE.md and README.md cite. Run it at the repository's root.
 
-    tools/check_proofs.py [FILE ..]     (the two where none is named)
+    tools/check_proofs.py [FILE ..]     (the three where none is named)
 
 A citation is one or more names in backticks before a path in brackets: `decode`, `nameOf` (table/specs/Decode.antt). Paths are from
 the root or from crates/.
 - The path must be there, and so must each other path that the text has.
 - Each name must be defined in the file: a function, type or constant of a .rt file, a definition, theorem, field or module of an .antt
   file; in any other file it must stand as a word.
-- Before a folder must-fail or must-fail-more the names are its edits: NAME.edit must be there, and what it replaces must stand in the file that it damages.
+- Before a folder must-fail or must-fail-more the names are its edits: NAME.edit must be there, and what it replaces must
+  stand in the file that it damages.
 - Each must-fail edit of the crates must be cited.
 It prints how many names were checked, or a list of what is wrong, with status 1.
 """
@@ -58,6 +59,22 @@ def edit_faults(name, folder):
     return faults
 
 
+def paragraphs(lines):
+    """The rows and headings of a document, and its paragraphs as one line each, with the number of the first."""
+    number, words = 0, []
+    for at, line in enumerate([*lines, ''], 1):
+        if line and not line.startswith(('|', '#', '- ', '    ')):
+            number, words = number if words else at, words + [line.strip()]
+            continue
+        if words:
+            yield number, ' '.join(words)
+        number, words = 0, []
+        if line.startswith('- '):
+            number, words = at, [line]
+        elif line:
+            yield at, line
+
+
 class Check:
     """What was checked, and what is wrong."""
 
@@ -92,8 +109,8 @@ class Check:
         return faults + [f'no file {path}' for path in sorted(missing)]
 
     def document(self, doc):
-        for number, line in enumerate(doc.read_text().splitlines(), 1):
-            self.wrong += [f'{doc.name}:{number}: {words}' for words in self.line(line, doc)]
+        for number, text in paragraphs(doc.read_text().splitlines()):
+            self.wrong += [f'{doc.name}:{number}: {words}' for words in self.line(text, doc)]
 
     def left_out(self):
         for edit in sorted((ROOT / 'crates').glob('*/must-fail*/*.edit')):
@@ -102,14 +119,15 @@ class Check:
 
 
 def main():
-    docs = [Path(a).resolve() for a in sys.argv[1:]] or [ROOT / 'docs/PROOFS.md', ROOT / 'README.md']
+    docs = [Path(a).resolve() for a in sys.argv[1:]] or [ROOT / 'docs/PROOFS.md', ROOT / 'docs/ARCHITECTURE.md', ROOT / 'README.md']
     check = Check()
     for doc in docs:
         check.document(doc)
     check.left_out()
     for line in check.wrong:
         print(line)
-    print(f'{check.names} names and {len(check.edits)} must-fail edits in {len(check.paths)} files and folders checked, {len(check.wrong)} wrong')
+    cited = f'{check.names} names and {len(check.edits)} must-fail edits in {len(check.paths)} files and folders'
+    print(f'{cited} checked, {len(check.wrong)} wrong')
     sys.exit(1 if check.wrong else 0)
 
 
