@@ -32,7 +32,7 @@ use Rattle.making.proofs.FreshLaws.{fresh-pitches, fresh-stretches, fresh-band}
 use Rattle.filters.specs.declared.rng.Rng.{Rng}
 use Rattle.voice.specs.declared.voice.State.{State}
 use Rattle.voice.specs.declared.voice.Voice.{Voice}
-use Rattle.claim.specs.Machine.{Plain, plainFrom, Machine, Event, frequency, seed, startFrom, advanced, tick, stretchOf, noiseNext, atFrequency, Supplied, supplied, move, machineFrom}
+use Rattle.claim.specs.Machine.{Plain, plainFrom, Machine, Event, frequency, reset, seed, startFrom, advanced, tick, stretchOf, noiseNext, atFrequency, Supplied, supplied, move, machineFrom}
 use Rattle.claim.specs.Calls.{VoiceCall, playing, resetting, reseeding, after, run, fedBy, fed, running, CallsF32}
 use Rattle.claim.proofs.Folds.{take-replicate, getD-padded}
 use Rattle.claim.proofs.Memories.{memories-first}
@@ -70,6 +70,18 @@ machine-append : (y : Supplied) (a b : List Event) → machineFrom y (a ++ b) �
 unfolding machineFrom
 machine-append y [] b = refl
 machine-append y (e ∷ a) b = machine-append (move (y .source) (y .state) e) a b
+
+-- no event there is changes what the machine takes: after any list of them it is what the making gave
+move-source : (x : Plain) (s : Machine) (e : Event) → move x s e .source ≡ x
+unfolding move
+move-source x s (frequency f) = refl
+move-source x s reset = refl
+move-source x s (seed n) = refl
+
+pub source-kept : (y : Supplied) (es : List Event) → machineFrom y es .source ≡ y .source
+unfolding machineFrom
+source-kept y [] = refl
+source-kept y (e ∷ es) = source-kept (move (y .source) (y .state) e) es ∙ move-source (y .source) (y .state) e
 
 -- what moves does not go by the running state of the voice
 moved-with : (v : Voice) (s t : State) (f0 : Float) → moved (withState v s) f0 t ≡ moved v f0 t

@@ -6,6 +6,7 @@ ghost use lib.ListN.{length};
 ghost use Rattle.voice.specs.Input.{call, frequencyAt, gainsAt};
 ghost use Rattle.voice.specs.Voice.{voiceOf, stateOf};
 ghost use Rattle.player.specs.inner.Passes.{VoiceFits, CallFits, ChannelPlayed, BlockPlayed};
+ghost use Rattle.voice.specs.Limits.{maxSamples, maxChannels};
 use crate::channel::channel_of;
 use crate::input::part_of;
 use filters::Rng;
@@ -84,7 +85,7 @@ pub fn block_of(
     out: &mut [f32],
 ) -> Rng
     requires { ⌜ VoiceFits set (now lists) (now phases) × CallFits (call b (now freq) (now g0) (now g1) (now g2) (now g3))
-        × (b .samples ≤ 128) × (1 ≤ b .channels) × (b .channels ≤ 8) × (length (now out) ≡ b .channels * b .samples) ⌝ }
+        × (b .samples ≤ maxSamples) × (1 ≤ b .channels) × (b .channels ≤ maxChannels) × (length (now out) ≡ b .channels * b .samples) ⌝ }
     ensures { λ r. ⌜ BlockPlayed
         (voiceOf set (now (lists .entry)) (now (partials .entry)) (now (noise .entry)) (stateOf (now (phases .entry))
         (now (memories .entry)) rng))

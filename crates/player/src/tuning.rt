@@ -16,7 +16,7 @@ ghost use Rattle.player.specs.inner.Columns.{LiveIn};
 ghost use Rattle.voice.specs.Voice.{pitchOk, stretchOk};
 ghost use Rattle.player.specs.Sound.{partialRow};
 ghost use Rattle.player.specs.inner.Tuning.{Tuned, NoiseTuned};
-ghost use Rattle.voice.specs.Limits.{maxEntries, maxPartials, maxBands, maxBlended};
+ghost use Rattle.voice.specs.Limits.{maxEntries, maxPartials, maxBands, maxBlended, maxHz};
 use crate::columns::all_up_to;
 use crate::constants::Constants;
 use crate::noise::sum::noise_rows;
@@ -139,7 +139,7 @@ pub fn tune(
     partials: &[f32; 2048],
 ) -> Tuning
     requires { ⌜ (1 ≤ count) × (count ≤ maxEntries) × (every (λ i. pitchOk (getD (now «f0_hz») i nan)) count ≡ true) ×
-        (every (λ i. stretchOk (getD (now stretch) i nan)) count ≡ true) × Within 20000 1 f0 ⌝ }
+        (every (λ i. stretchOk (getD (now stretch) i nan)) count ≡ true) × Within maxHz 1 f0 ⌝ }
     requires { ⌜ (x .m ≤ maxPartials) × (x .k ≤ maxBlended) × Within 1 4096 (x .inv) ⌝ }
     requires { ⌜ (eq f0 (t .f0) ≡ true → Tuned x count (now «f0_hz») (now stretch) (now «mainlobe_gain») (now partials) f0 (now incs)
         (now fades) (now rows) t) ⌝ }
@@ -174,7 +174,7 @@ pub fn tune_noise(
     noise: &[f32; 1024],
     live: &[u8; 16],
 ) -> NoiseTuning
-    requires { ⌜ (1 ≤ count) × (count ≤ maxEntries) × (every (λ i. pitchOk (getD (now «f0_hz») i nan)) count ≡ true) × Within 20000 1 f0 ⌝ }
+    requires { ⌜ (1 ≤ count) × (count ≤ maxEntries) × (every (λ i. pitchOk (getD (now «f0_hz») i nan)) count ≡ true) × Within maxHz 1 f0 ⌝ }
     requires { ⌜ (x .k ≤ maxBlended) × («live_count» ≤ maxBands) × LiveIn (now live) «live_count» ⌝ }
     requires { ⌜ (eq f0 (was .f0) ≡ true → NoiseTuned x count «live_count» (now «f0_hz») (now «noise_gain») (now noise) (now live) f0
         (now rows) was) ⌝ }

@@ -1,4 +1,5 @@
-// Playing a voice where it lies: nothing of it is copied but its running state, which tells in short blocks.
+// Playing a voice where it lies: nothing of it is copied but its numbers and its running state,
+// which tells in short blocks.
 ghost use Rattle.voice.specs.Input.{call};
 ghost use Rattle.player.specs.Play.{PlaysIn};
 use player::play_parts;

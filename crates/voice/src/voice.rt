@@ -18,7 +18,7 @@ pub struct Setting {
     pub k: usize, // channels that are blended; 1 of a single voice
     pub m: usize, // phases
     pub j: usize, // bands
-    pub live_count: usize, // live bands, and below which they are
+    pub live_count: usize, // live bands: the first places of `live`
     pub sample_rate: f32,
     pub live: [u8; 16],
 }

@@ -6,6 +6,7 @@ use lib.Ieee.{Float}
 use Rattle.table.specs.Table.{PitchEntry}
 use Rattle.float.specs.F32.{nearest}
 use Rattle.voice.specs.Lists.{padded}
+use Rattle.voice.specs.Limits.{maxEntries, maxBands}
 use Rattle.filters.specs.Biquad.{noiseBand}
 use Rattle.making.specs.Making.{f32, gainOf, mainlobeKey, noiseGainKey, bandFloats}
 use Rattle.filters.specs.Band.{zeroCoeffs, bandCompensation}
@@ -16,17 +17,17 @@ use Rattle.making.specs.declared.init.Bands.{Bands}
 -- what each sorted entry has one of
 abbrev pub columnsOf : List PitchEntry → Columns
 columnsOf vs = record {
-  «f0_hz» = padded 16 (nearest 0 1) (map (λ e. f32 (e .f0Hz)) vs);
-  stretch = padded 16 (nearest 0 1) (map (λ e. f32 (e .stretch)) vs);
-  «mainlobe_gain» = padded 16 (nearest 0 1) (map (gainOf mainlobeKey) vs);
-  «noise_gain» = padded 16 (nearest 0 1) (map (gainOf noiseGainKey) vs);
+  «f0_hz» = padded maxEntries (nearest 0 1) (map (λ e. f32 (e .f0Hz)) vs);
+  stretch = padded maxEntries (nearest 0 1) (map (λ e. f32 (e .stretch)) vs);
+  «mainlobe_gain» = padded maxEntries (nearest 0 1) (map (gainOf mainlobeKey) vs);
+  «noise_gain» = padded maxEntries (nearest 0 1) (map (gainOf noiseGainKey) vs);
 }
 
 -- what each band has one of
 abbrev pub bandsFrom : List Float → Float → Bands
 bandsFrom centres rate = record {
-  coeffs = padded 16 zeroCoeffs (map (λ c. noiseBand c rate) centres);
-  compensation = padded 16 (nearest 0 1) (map (λ c. bandCompensation c rate) centres);
+  coeffs = padded maxBands zeroCoeffs (map (λ c. noiseBand c rate) centres);
+  compensation = padded maxBands (nearest 0 1) (map (λ c. bandCompensation c rate) centres);
 }
 
 -- both laid one after the other, as a voice has them

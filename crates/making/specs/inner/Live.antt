@@ -5,11 +5,12 @@ use mathlib.Core.Bool.{Bool}
 use lib.ListN.{length, set}
 use Rattle.wire.specs.Parse.{pick}
 use Rattle.voice.specs.Lists.{padded}
+use Rattle.voice.specs.Limits.{maxBands}
 use Rattle.making.specs.declared.live.Live.{Live}
 
 -- a list of bands in 16 places
 abbrev pub liveOf : List ℕ → Live
-liveOf l = record { bands = padded 16 0 l; count = length l }
+liveOf l = record { bands = padded maxBands 0 l; count = length l }
 
 -- one band more, if it is live
 abbrev pub addLive : Live → ℕ → Bool → Live

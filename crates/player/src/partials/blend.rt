@@ -13,7 +13,7 @@ ghost use Rattle.player.specs.Phase.{Phase, advanceOf, partialFreq, step
 ghost use Rattle.voice.specs.Voice.{phasesOk};
 ghost use Rattle.player.specs.Bracket.{SidesIn};
 ghost use Rattle.player.specs.Sound.{addBlend, blendCoeff, partialRow};
-ghost use Rattle.voice.specs.Limits.{maxEntries, maxPartials, maxBlended};
+ghost use Rattle.voice.specs.Limits.{maxEntries, maxPartials, maxBlended, maxHz};
 use crate::partials::fade::nyquist_fade;
 use crate::partials::phase::advance;
 use crate::partials::phase::partial_freq;
@@ -78,7 +78,7 @@ pub fn partials_blend<'a>(
     nyquist: f32,
 ) -> f32
     requires { ⌜ Table (now wave) × SidesIn maxEntries s × (k ≤ maxBlended) × (m ≤ maxPartials) × (phasesOk (now phases) m ≡ true) ⌝ }
-    requires { ⌜ Within 20000 1 f0 × Within 8 1 stretch × Within 1 4096 inv ⌝ }
+    requires { ⌜ Within maxHz 1 f0 × Within 8 1 stretch × Within 1 4096 inv ⌝ }
     ensures { λ r. ⌜ r ≡ steps (λ i y. addBlend y (blendCoeff (λ q. partialRow (now (partials .entry)) s q i) (now (gains .entry)) k)
         mainlobe (nyquistFade (partialFreq (i + 1) f0 stretch) nyquist) (advanceOf (getD (now (phases .entry)) i nan) (stepOf (i + 1) f0
         stretch inv))) (nearest 0 1) m ⌝ }

@@ -18,7 +18,7 @@ ghost use Rattle.player.specs.Phase.{advanceOf, partialFreq, stepOf};
 ghost use Rattle.player.specs.Bracket.{SidesIn};
 ghost use Rattle.player.specs.Sound.{addSingle, addBlend, blendCoeff, partialRow};
 ghost use Rattle.player.specs.inner.Terms.{sampleAdded};
-ghost use Rattle.voice.specs.Limits.{maxEntries, maxPartials, maxBlended};
+ghost use Rattle.voice.specs.Limits.{maxEntries, maxPartials, maxBlended, maxHz};
 use crate::constants::Constants;
 use crate::constants::constants_of;
 use crate::input::frequency_at;
@@ -46,7 +46,7 @@ fn sample_of<'a>(
 ) -> f32
     requires { ⌜ Table (now wave) × SidesIn maxEntries (p .s) × (v .k ≤ maxBlended) × (v .m ≤ maxPartials)
         × (phasesOk (now phases) (v .m) ≡ true) ⌝ }
-    requires { ⌜ Within 20000 1 (p .f0) × Within 8 1 (p .stretch) × Within 1 4096 (v .inv) ⌝ }
+    requires { ⌜ Within maxHz 1 (p .f0) × Within 8 1 (p .stretch) × Within 1 4096 (v .inv) ⌝ }
     ensures { λ r. ⌜ r ≡ steps
         (λ i y. sampleAdded v p (now (partials .entry)) (now (gains .entry)) (now (phases .entry)) i y) (nearest 0 1) (v .m) ⌝ }
     ensures { λ r. ⌜ now (phases .exit) ≡ mapTo (λ i ph. advanceOf ph (stepOf (i + 1) (p .f0) (p .stretch) (v .inv))) 0 (v .m)

@@ -13,7 +13,7 @@ ghost use Rattle.player.specs.Phase.{Phase, advanceOf, partialFreq, step
 ghost use Rattle.voice.specs.Voice.{phasesOk};
 ghost use Rattle.player.specs.Bracket.{SidesIn};
 ghost use Rattle.player.specs.Sound.{addSingle, partialRow};
-ghost use Rattle.voice.specs.Limits.{maxEntries, maxPartials};
+ghost use Rattle.voice.specs.Limits.{maxEntries, maxPartials, maxHz};
 use crate::partials::fade::nyquist_fade;
 use crate::partials::phase::advance;
 use crate::partials::phase::partial_freq;
@@ -55,7 +55,7 @@ pub fn partials_single<'a>(
     gain: f32,
 ) -> f32
     requires { ⌜ Table (now wave) × SidesIn maxEntries s × (m ≤ maxPartials) × (phasesOk (now phases) m ≡ true) ⌝ }
-    requires { ⌜ Within 20000 1 f0 × Within 8 1 stretch × Within 1 4096 inv ⌝ }
+    requires { ⌜ Within maxHz 1 f0 × Within 8 1 stretch × Within 1 4096 inv ⌝ }
     ensures { λ r. ⌜ r ≡ steps (λ i y. addSingle y (partialRow (now (partials .entry)) s 0 i) mainlobe (nyquistFade (partialFreq (i + 1)
         f0 stretch) nyquist) gain (advanceOf (getD (now (phases .entry)) i nan) (stepOf (i + 1) f0 stretch inv))) (nearest 0 1) m ⌝ }
     ensures { λ r. ⌜ now (phases .exit) ≡ mapTo (λ i p. advanceOf p (stepOf (i + 1) f0 stretch inv)) 0 m (now (phases .entry)) ⌝ }

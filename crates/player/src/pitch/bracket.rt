@@ -9,7 +9,7 @@ ghost use Rattle.voice.specs.Lists.{every};
 ghost use Rattle.player.specs.Share.{shareOf};
 ghost use Rattle.voice.specs.Voice.{pitchOk};
 ghost use Rattle.player.specs.Bracket.{notAbove, bracketOf, sidesOf, SidesIn, between};
-ghost use Rattle.voice.specs.Limits.{maxEntries};
+ghost use Rattle.voice.specs.Limits.{maxEntries, maxHz};
 
 // One entry by its index, or two neighbours with the share between them.
 pub enum Bracket {
@@ -41,14 +41,14 @@ fn not_above(f0_hz: &[f32; 16], n: usize, f0: f32) -> usize
 
 // The share of f0 between two pitches.
 fn share(lo: f32, f0: f32, hi: f32) -> f32
-    requires { ⌜ Within 20000 1 lo × Within 20000 1 f0 × Within 20000 1 hi × (le lo f0 ≡ true) × (le hi f0 ≡ false) ⌝ }
+    requires { ⌜ Within maxHz 1 lo × Within maxHz 1 f0 × Within maxHz 1 hi × (le lo f0 ≡ true) × (le hi f0 ≡ false) ⌝ }
     ensures { λ r. ⌜ (r ≡ shareOf lo f0 hi) × Within 1 1 r ⌝ }
 {
     (f0 - lo) / (hi - lo)
 }
 
 pub fn bracket_at(f0_hz: &[f32; 16], count: usize, f0: f32) -> Bracket
-    requires { ⌜ (1 ≤ count) × (count ≤ maxEntries) × (every (λ i. pitchOk (getD (now «f0_hz») i nan)) count ≡ true) × Within 20000 1 f0 ⌝ }
+    requires { ⌜ (1 ≤ count) × (count ≤ maxEntries) × (every (λ i. pitchOk (getD (now «f0_hz») i nan)) count ≡ true) × Within maxHz 1 f0 ⌝ }
     ensures { λ r. ⌜ r ≡ bracketOf (now («f0_hz» .entry)) count f0 ⌝ }
     ensures { λ r. ⌜ SidesIn count (sidesOf r) × Within 1 1 (sidesOf r .t) ⌝ }
 {
@@ -83,7 +83,7 @@ pub fn both_sides(b: Bracket) -> Sides
 
 // The sides of f0 among count pitches.
 pub fn sides_at(f0_hz: &[f32; 16], count: usize, f0: f32) -> Sides
-    requires { ⌜ (1 ≤ count) × (count ≤ maxEntries) × (every (λ i. pitchOk (getD (now «f0_hz») i nan)) count ≡ true) × Within 20000 1 f0 ⌝ }
+    requires { ⌜ (1 ≤ count) × (count ≤ maxEntries) × (every (λ i. pitchOk (getD (now «f0_hz») i nan)) count ≡ true) × Within maxHz 1 f0 ⌝ }
     ensures { λ r. ⌜ r ≡ sidesOf (bracketOf (now («f0_hz» .entry)) count f0) ⌝ }
     ensures { λ r. ⌜ SidesIn count r × Within 1 1 (r .t) ⌝ }
 {

@@ -9,7 +9,7 @@ ghost use Rattle.voice.specs.Lists.{every};
 ghost use Rattle.voice.specs.Voice.{pitchOk, stretchOk};
 ghost use Rattle.player.specs.inner.Tuning.{PitchAt};
 ghost use Rattle.player.specs.Bracket.{bracketOf, sidesOf, SidesIn, between};
-ghost use Rattle.voice.specs.Limits.{maxEntries};
+ghost use Rattle.voice.specs.Limits.{maxEntries, maxHz};
 use crate::pitch::bracket::Sides;
 use crate::pitch::bracket::sides_at;
 use crate::pitch::bracket::value_between;
@@ -30,7 +30,7 @@ pub fn pitch_at(
     f0: f32,
 ) -> Pitch
     requires { ⌜ (1 ≤ count) × (count ≤ maxEntries) × (every (λ i. pitchOk (getD (now «f0_hz») i nan)) count ≡ true) ×
-        (every (λ i. stretchOk (getD (now stretch) i nan)) count ≡ true) × Within 20000 1 f0 ⌝ }
+        (every (λ i. stretchOk (getD (now stretch) i nan)) count ≡ true) × Within maxHz 1 f0 ⌝ }
     ensures { λ r. ⌜ (r .f0 ≡ f0) × (r .s ≡ sidesOf (bracketOf (now («f0_hz» .entry)) count f0)) × (r .stretch ≡ between
         (now (stretch .entry)) (r .s)) × (r .mainlobe ≡ between (now («mainlobe_gain» .entry)) (r .s)) ⌝ }
     ensures { λ r. ⌜ SidesIn maxEntries (r .s) × Within 8 1 (r .stretch) ⌝ }
@@ -70,7 +70,7 @@ pub fn pitch_kept(
     f0: f32,
 ) -> Pitch
     requires { ⌜ (1 ≤ count) × (count ≤ maxEntries) × (every (λ i. pitchOk (getD (now «f0_hz») i nan)) count ≡ true) ×
-        (every (λ i. stretchOk (getD (now stretch) i nan)) count ≡ true) × Within 20000 1 f0 ⌝ }
+        (every (λ i. stretchOk (getD (now stretch) i nan)) count ≡ true) × Within maxHz 1 f0 ⌝ }
     requires { ⌜ (eq f0 (was .f0) ≡ true → PitchAt (now «f0_hz») (now stretch) (now «mainlobe_gain») count f0 was) ⌝ }
     ensures { λ r. ⌜ PitchAt (now («f0_hz» .entry)) (now (stretch .entry)) (now («mainlobe_gain» .entry)) count f0 r ⌝ }
 {
