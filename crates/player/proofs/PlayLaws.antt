@@ -26,7 +26,8 @@ module _ (v : Voice) (c : Call) (out : List Float) where
   kept-state (suc n) w h = refl
 
   -- LAW: a refused play of a voice in parts
-  pub parts-refused : (n : ℕ) → n ≡ q → (n ≡ 0 → ⊥) → PlaysParts v c out (record { number = n; state = v .state }) out
+  pub parts-refused : (n : ℕ) → n ≡ q → (n ≡ 0 → ⊥)
+      → PlaysParts v c out (record { number = n; rng = v .state .rng }) (v .state .phases) (v .state .memories) out
   unfolding played playedOut
   parts-refused n e h = record {
     answered = e;
@@ -35,24 +36,24 @@ module _ (v : Voice) (c : Call) (out : List Float) where
   }
 
   -- LAW: an accepted one
-  pub parts-played : (r : Rng) (ps ms ys : List Float) → q ≡ 0 → BlockPlayed v c r ps ms ys → PlaysParts v c out (record { number = 0; state = stateOf ps ms r }) ys
+  pub parts-played : (r : Rng) (ps ms ys : List Float) → q ≡ 0 → BlockPlayed v c r ps ms ys → PlaysParts v c out (record { number = 0; rng = r }) ps ms ys
   unfolding played playedOut
   parts-played r ps ms ys z B = record { answered = rw z; moves = rw z (B .ends); written = rw z (B .written) }
 
   -- LAW: a voice by value, from its parts: refused, it is the one given
-  pub voice-refused : (m : Moved) (ys : List Float) (a : PlayAnswer) → PlaysParts v c out m ys → playNumber a ≡ m .number → (m .number ≡ 0 → ⊥)
+  pub voice-refused : (m : Moved) (ps ms ys : List Float) (a : PlayAnswer) → PlaysParts v c out m ps ms ys → playNumber a ≡ m .number → (m .number ≡ 0 → ⊥)
       → Plays v c out (record { answer = a; voice = v }) ys
   unfolding played
-  voice-refused m ys a P e h = record {
+  voice-refused m ps ms ys a P e h = record {
     answered = rw (e, P .answered) (refused q v (withState v (blockEnd v c)) (λ z. h (P .answered ∙ z)));
     written = P .written;
   }
 
   -- LAW: accepted, it has the state that its parts were left in
-  pub voice-played : (m : Moved) (ys : List Float) → PlaysParts v c out m ys → m .number ≡ 0
-      → Plays v c out (record { answer = PlayAnswer.Done; voice = withState v (m .state) }) ys
+  pub voice-played : (m : Moved) (ps ms ys : List Float) → PlaysParts v c out m ps ms ys → m .number ≡ 0
+      → Plays v c out (record { answer = PlayAnswer.Done; voice = withState v (stateOf ps ms (m .rng)) }) ys
   unfolding played
-  voice-played m ys P e =
+  voice-played m ps ms ys P e =
       let z : q ≡ 0 = sym (P .answered) ∙ e in
-      let s : m .state ≡ blockEnd v c = P .moves ∙ ap (λ (n : ℕ). accepted n (withState v (blockEnd v c)) v .state) z in
+      let s : stateOf ps ms (m .rng) ≡ blockEnd v c = P .moves ∙ ap (λ (n : ℕ). accepted n (withState v (blockEnd v c)) v .state) z in
       record { answered = rw (z, s); written = P .written }

@@ -6,7 +6,7 @@ use lib.ListN.{length}
 use lib.Ieee.{Float}
 use Rattle.voice.specs.Input.{Call}
 use Rattle.voice.specs.Question.{playQuestion, accepted, Outcome, outcomeOf}
-use Rattle.voice.specs.Voice.{withState}
+use Rattle.voice.specs.Voice.{withState, stateOf}
 use Rattle.player.specs.Block.{blockOut, blockEnd}
 use Rattle.player.specs.declared.playing.Moved.{Moved}
 use Rattle.voice.specs.declared.answer.Played.{Played}
@@ -29,10 +29,10 @@ pub record Plays (v : Voice) (c : Call) (out : List Float) (p : Played) (out′ 
   pub answered : outcomeOf p ≡ played v c (length out)
   pub written : out′ ≡ playedOut v c out
 
--- of a voice whose lists are lent: the number, and the running state after the call
-pub record PlaysParts (v : Voice) (c : Call) (out : List Float) (m : Moved) (out′ : List Float) : Type 0 where
+-- of a voice whose parts are lent: the number, and the running state after the call, of which the phases and memories lie where they lay
+pub record PlaysParts (v : Voice) (c : Call) (out : List Float) (m : Moved) (phases memories out′ : List Float) : Type 0 where
   pub answered : m .number ≡ played v c (length out) .number
-  pub moves : m .state ≡ played v c (length out) .voice .state
+  pub moves : stateOf phases memories (m .rng) ≡ played v c (length out) .voice .state
   pub written : out′ ≡ playedOut v c out
 
 -- of a voice where it lies, which is `v` at the call and `v′` at the return

@@ -2,10 +2,11 @@
 ghost use mathlib.Core.Path.{_≡_};
 ghost use Prim.Native.Nat.{_≤_};
 ghost use Rattle.voice.specs.Input.{call};
-ghost use Rattle.voice.specs.Voice.{voiceOf};
+ghost use Rattle.voice.specs.Voice.{voiceOf, stateOf};
 ghost use Rattle.voice.specs.Question.{playNumber};
 ghost use Rattle.player.specs.Play.{Plays, PlaysParts};
 use crate::block::block_of;
+use filters::Rng;
 use voice::PlayAnswer;
 use voice::Played;
 use voice::Setting;
@@ -31,19 +32,21 @@ fn answer_of(q: u32) -> PlayAnswer
     PlayAnswer::BadFrequency
 }
 
-// The number of the first question that is answered no, or 0; and the running state after the call.
+// The number of the first question that is answered no, or 0; and the noise number after the call.
 pub struct Moved {
     pub number: u32,
-    pub state: State,
+    pub rng: Rng,
 }
 
-// Plays a voice whose lists are lent where they lie.
+// Plays a voice whose lists and running state are lent where they lie. A refusal leaves them as they are.
 pub fn play_parts<'a>(
     set: Setting,
     lists: &'a [f32; 160],
     partials: &'a [f32; 2048],
     noise: &'a [f32; 1024],
-    state: State,
+    phases: &mut [f32; 32],
+    memories: &mut [f32; 32],
+    rng: Rng,
     b: Shape,
     freq: &[f32],
     g0: &[f32],
@@ -52,24 +55,22 @@ pub fn play_parts<'a>(
     g3: &[f32],
     out: &mut [f32],
 ) -> Moved
-    ensures { λ r. ⌜ PlaysParts (voiceOf set (now (lists .entry)) (now (partials .entry)) (now (noise .entry)) state)
+    ensures { λ r. ⌜ PlaysParts (voiceOf set (now (lists .entry)) (now (partials .entry)) (now (noise .entry)) (stateOf (now (phases .entry))
+        (now (memories .entry)) rng))
         (call b (now (freq .entry)) (now (g0 .entry)) (now (g1 .entry)) (now (g2 .entry)) (now (g3 .entry)))
-        (now (out .entry)) r (now (out .exit)) ⌝ }
+        (now (out .entry)) r (now (phases .exit)) (now (memories .exit)) (now (out .exit)) ⌝ }
 {
-    let mut phases = state.phases;
-    let q = play_question(set, lists, &phases, b, freq, g0, g1, g2, g3, out.len());
+    let q = play_question(set, lists, phases, b, freq, g0, g1, g2, g3, out.len());
     if q != 0 {
-        return Moved { number: q, state };
+        return Moved { number: q, rng };
     }
-    let mut memories = state.memories;
-    let rng = state.rng;
     let end = block_of(
         set,
         lists,
         partials,
         noise,
-        &mut phases,
-        &mut memories,
+        phases,
+        memories,
         rng,
         b,
         freq,
@@ -79,14 +80,9 @@ pub fn play_parts<'a>(
         g3,
         out,
     );
-    let after = State {
-        phases,
-        memories,
-        rng: end,
-    };
     Moved {
         number: 0,
-        state: after,
+        rng: end,
     }
 }
 
@@ -106,12 +102,17 @@ pub fn play(
 {
     let set = voice.set;
     let state = voice.state;
+    let mut phases = state.phases;
+    let mut memories = state.memories;
+    let rng = state.rng;
     let m = play_parts(
         set,
         &voice.lists,
         &voice.partials,
         &voice.noise,
-        state,
+        &mut phases,
+        &mut memories,
+        rng,
         b,
         freq,
         g0,
@@ -124,7 +125,12 @@ pub fn play(
         let answer = answer_of(m.number);
         return Played { answer, voice };
     }
-    let after = m.state;
+    let end = m.rng;
+    let after = State {
+        phases,
+        memories,
+        rng: end,
+    };
     voice.state = after;
     let answer = PlayAnswer::Done;
     Played { answer, voice }

@@ -20,7 +20,7 @@ use Rattle.table.proofs.Spelled.{table-parts, header-parts}
 use Rattle.table.proofs.ReadLaws.{accepted}
 use Rattle.voice.specs.Input.{Call}
 use Rattle.voice.specs.Question.{accepted as accepted-by, playQuestion}
-use Rattle.voice.specs.Voice.{withState}
+use Rattle.voice.specs.Voice.{withState, stateOf}
 use Rattle.voice.specs.declared.voice.State.{State}
 use Rattle.voice.specs.declared.voice.Voice.{Voice}
 use Rattle.player.specs.Block.{blockEnd}
@@ -76,11 +76,11 @@ state-moves : (q : ℕ) (v : Voice) (s : State) → withState v (accepted-by q (
 state-moves zero v s = refl
 state-moves (suc q) v s = refl
 
--- so a voice where it lies is played where the state that its parts were left in is stored
-pub plays-in : (v : Voice) (c : Call) (out : List Float) (m : Moved) (ys : List Float) → PlaysParts v c out m ys
-    → PlaysIn v c out (m .number) (withState v (m .state)) ys
+-- so a voice where it lies is played where its phases and memories are left and the noise number is stored
+pub plays-in : (v : Voice) (c : Call) (out : List Float) (m : Moved) (ps ms ys : List Float) → PlaysParts v c out m ps ms ys
+    → PlaysIn v c out (m .number) (withState v (stateOf ps ms (m .rng))) ys
 unfolding played
-plays-in v c out m ys P = record {
+plays-in v c out m ps ms ys P = record {
   answered = P .answered;
   moves = ap (withState v) (P .moves) ∙ state-moves (playQuestion v c (length out)) v (blockEnd v c);
   written = P .written;

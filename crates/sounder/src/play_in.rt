@@ -1,4 +1,4 @@
-// Playing a voice where it lies: nothing of it is copied but its numbers and its running state,
+// Playing a voice where it lies: its lists and its running state are lent, and nothing of it is copied but its numbers,
 // which tells in short blocks.
 ghost use Rattle.voice.specs.Input.{call};
 ghost use Rattle.player.specs.Play.{PlaysIn};
@@ -23,13 +23,15 @@ pub extern "C" fn sounder_play_in(
         (now (out .entry)) r (now (voice .exit)) (now (out .exit)) ⌝ }
 {
     let set = voice.set;
-    let state = voice.state;
+    let rng = voice.state.rng;
     let m = play_parts(
         set,
         &voice.lists,
         &voice.partials,
         &voice.noise,
-        state,
+        &mut voice.state.phases,
+        &mut voice.state.memories,
+        rng,
         shape,
         freq,
         g0,
@@ -38,7 +40,7 @@ pub extern "C" fn sounder_play_in(
         g3,
         out,
     );
-    let after = m.state;
-    voice.state = after;
+    let end = m.rng;
+    voice.state.rng = end;
     m.number
 }

@@ -18,8 +18,8 @@ answer-of-requires : tie.Need-answer-of-requires
 unfolding played
 answer-of-requires c κs =
     let b4 = c .before .before .before .before in
-    let b18 = b4 .before .before .before .before .before .before .before .before .before .before .before .before .before .before in
-    play-number (b18 .args .t1) (called b18) (length (b18 .args .out .now)) (b4 .play-parts .result .number) (b4 .play-parts .ensures .answered) (c .if1 .taken)
+    let s = b4 .before .before .before .before .before .before .before .before .before .before .before .before .before .before .before .before .before .before .before in
+    play-number (s .args .t1) (called s) (length (s .args .out .now)) (b4 .play-parts .result .number) (b4 .play-parts .ensures .answered) (c .if1 .taken)
 
 same-length : tie.Need-same-length
 same-length c = search needs
@@ -28,8 +28,8 @@ returns : tie.Need-returns
 returns c =
     let b1 = c .before in
     let b5 = b1 .before .before .before .before in
-    let b19 = b5 .before .before .before .before .before .before .before .before .before .before .before .before .before .before in
-    voice-refused (b19 .args .t1) (called b19) (b19 .args .out .now) (b5 .play-parts .result) _ (c .answer-of .result) (b5 .play-parts .ensures) (c .answer-of .ensures) (b1 .if1 .taken)
+    let s = b5 .before .before .before .before .before .before .before .before .before .before .before .before .before .before .before .before .before .before .before in
+    voice-refused (s .args .t1) (called s) (s .args .out .now) (b5 .play-parts .result) _ _ _ (c .answer-of .result) (b5 .play-parts .ensures) (c .answer-of .ensures) (b1 .if1 .taken)
 
 same-length-2 : tie.Need-same-length-2
 same-length-2 c = search needs
@@ -38,8 +38,8 @@ returns-2 : tie.Need-returns-2
 returns-2 c =
     let b1 = c .before in
     let b5 = b1 .before .before .before .before in
-    let b19 = b5 .before .before .before .before .before .before .before .before .before .before .before .before .before .before in
-    voice-played (b19 .args .t1) (called b19) (b19 .args .out .now) (b5 .play-parts .result) _ (b5 .play-parts .ensures) (b1 .if1 .left)
+    let s = b5 .before .before .before .before .before .before .before .before .before .before .before .before .before .before .before .before .before .before .before in
+    voice-played (s .args .t1) (called s) (s .args .out .now) (b5 .play-parts .result) _ _ _ (b5 .play-parts .ensures) (b1 .if1 .left)
 
 pub play-spec : {M : Type 1} → statement M
 play-spec =

@@ -1,5 +1,6 @@
--- `sounder_play_in` meets its contract: a walk of its MIR, by hand. The borrow of the voice is opened; its numbers and its state are copied; its lists
--- are lent for a lifetime that is made for the call (`Fields.antt`); they come back as they were; the new state is stored; and the borrow is closed.
+-- `sounder_play_in` meets its contract: a walk of its MIR, by hand. The borrow of the voice is opened; its numbers and its noise number are copied; its
+-- lists, phases and memories are lent for lifetimes that are made for the call (`Fields.antt`); they come back, the lists as they were, phases and
+-- memories as the call left them; the new noise number is stored; and the borrow is closed.
 -- All that the proof knows of `play_parts` is that it meets its contract.
 -- Assumes nothing.
 use mathlib.Core.Path.{_≡_, refl, ap, subst}
@@ -45,10 +46,10 @@ use denote.Triple.Walked.{says, Stays, stay-ref, stay-none, stay-none-slice, gav
 use denote.Exit.{yes}
 use denote.Signature.{Slot, plain}
 use Rattle.voice.specs.Input.{call, Call}
-use Rattle.voice.specs.Voice.{withState}
+use Rattle.voice.specs.Voice.{withState, stateOf}
 use Rattle.player.specs.Play.{PlaysParts}
 use Rattle.voice.specs.declared.voice.Voice.{Voice}
-use Rattle.voice.specs.declared.voice.State.{State}
+use Rattle.filters.specs.declared.rng.Rng.{Rng}
 use Rattle.player.specs.declared.playing.Moved.{Moved}
 use Rattle.voice.proofs.voice.Voice as T
 use Rattle.voice.proofs.voice.Voice.Laws as T′
@@ -60,10 +61,12 @@ use Rattle.voice.proofs.shape.Shape as B
 use Rattle.voice.proofs.shape.Shape.Laws as B′
 use Rattle.voice.proofs.voice.State as S
 use Rattle.voice.proofs.voice.State.Laws as S′
+use Rattle.filters.proofs.rng.Rng as G
+use Rattle.filters.proofs.rng.Rng.Laws as G′
 use Rattle.player.proofs.playing.Moved as R
 use Rattle.player.proofs.playing.Moved.Laws as R′
 use Rattle.sounder.proofs.DoorLaws.{plays-in}
-use Rattle.sounder.proofs.Fields.{listAt, ToLists, ToPartials, ToNoise, Lender, lends-lists, whole-in, whole-out}
+use Rattle.sounder.proofs.Fields.{Names, listAt, ToLists, ToPartials, ToNoise, ToPhases, ToMemories, Kept, lends, back, whole-in, whole-out}
 use Rattle.player.proofs.play_parts as parts
 use Rattle.player.proofs.play_parts.Symbol as parts-def
 use Rattle.player.proofs.play_parts.Symbol.{name as #player·play-parts}
@@ -135,71 +138,92 @@ module _ {M : Type 1} (𝓤 : URA M) (H : Heap 𝓤) (A : Atoms 𝓤) (W : Given
   abbrev Out : Fml
   Out = MutSlice (named 6) κ₆ f32 .own os (vo ∷ [])
 
-  -- what the work's triple binds outside: the lists lent for ν, each under a name
-  abbrev passed : GName → GName → GName → Setting × (RefT (List Float) × (RefT (List Float) × (RefT (List Float) × (State × (Shape × (RefT (List Float) × (RefT (List Float) × (RefT (List Float) × (RefT (List Float) × (RefT (List Float) × (RefT (List Float) × (Unit {0}))))))))))))
-  passed γ₁ γ₂ γ₃ = (h .set, (listAt b (o + 72) γ₁ (h .lists), (listAt b (o + 712) γ₂ (h .partials), (listAt b (o + 8904) γ₃ (h .noise), (h .state, (bl, (fs, (s0, (s1, (s2, (s3, (os, tt))))))))))))
+  -- what the work's triple binds outside: the lists lent for ν, the phases for μ, the memories for π, each under a name
+  abbrev passed : Names → Setting × (RefT (List Float) × (RefT (List Float) × (RefT (List Float) × (RefT (List Float) × (RefT (List Float) × (Rng × (Shape × (RefT (List Float) × (RefT (List Float) × (RefT (List Float) × (RefT (List Float) × (RefT (List Float) × (RefT (List Float) × (Unit {0}))))))))))))))
+  passed γ = (h .set, (listAt b (o + 72) (γ .lists) (h .lists), (listAt b (o + 712) (γ .partials) (h .partials), (listAt b (o + 8904) (γ .noise) (h .noise), (listAt b (o + 13000 + 0) (γ .phases) (h .state .phases), (listAt b (o + 13000 + 128) (γ .memories) (h .state .memories), (h .state .rng, (bl, (fs, (s0, (s1, (s2, (s3, (os, tt))))))))))))))
 
-  abbrev to-work : ℕ → GName → GName → GName → Work 𝓤 H A at-mem run .Ghost
-  to-work ν γ₁ γ₂ γ₃ = (
+  abbrev lfts : ℕ → ℕ → ℕ → Lft × (Lft × (Lft × (Lft × (Lft × (Lft × (Lft × (Lft × (Lft × (Unit {0})))))))))
+  lfts ν μ π = (ν ∷ [], (μ ∷ [], (π ∷ [], (κ₁, (κ₂, (κ₃, (κ₄, (κ₅, (κ₆, tt)))))))))
+
+  abbrev to-work : ℕ → ℕ → ℕ → Names → Work 𝓤 H A at-mem run .Ghost
+  to-work ν μ π γ = (
     (
-      (ν ∷ [], (κ₁, (κ₂, (κ₃, (κ₄, (κ₅, (κ₆, tt))))))),
-      (fullShare, (q₁, (q₂, (q₃, (q₄, (q₅, (q₆, tt))))))),
+      lfts ν μ π,
+      (fullShare, (fullShare, (fullShare, (q₁, (q₂, (q₃, (q₄, (q₅, (q₆, tt))))))))),
       tt,
-      passed γ₁ γ₂ γ₃,
-      (N′.lowered (h .set) ∷ [], (vptr b (o + 72) ∷ [], (vptr b (o + 712) ∷ [], (vptr b (o + 8904) ∷ [], (S′.lowered (h .state) ∷ [], (B′.lowered bl ∷ [], (vfs ∷ [], (vs0 ∷ [], (vs1 ∷ [], (vs2 ∷ [], (vs3 ∷ [], (vo ∷ [], tt)))))))))))),
+      passed γ,
+      (N′.lowered (h .set) ∷ [], (vptr b (o + 72) ∷ [], (vptr b (o + 712) ∷ [], (vptr b (o + 8904) ∷ [], (vptr b (o + 13000 + 0) ∷ [], (vptr b (o + 13000 + 128) ∷ [], (G′.lowered (h .state .rng) ∷ [], (B′.lowered bl ∷ [], (vfs ∷ [], (vs0 ∷ [], (vs1 ∷ [], (vs2 ∷ [], (vs3 ∷ [], (vo ∷ [], tt)))))))))))))),
     ),
     tt,
   )
 
-  -- what whoever holds the voice knows of its numbers and of its state
-  is-set : Is T.the-row h (T′.lowered h ∷ []) → Is N.the-row (h .set) (N′.lowered (h .set) ∷ [])
-  is-set g =
-      let k = LL.owed T.the-type T′.the-laws h (T′.lowered h ∷ []) g .0 in
-      subst (Is N.the-row (h .set)) (N′.lowers .val-is (h .set) _ k) k
+  -- what whoever holds a voice knows of its numbers, and of its noise number
+  is-set : (v : Voice) → Is T.the-row v (T′.lowered v ∷ []) → Is N.the-row (v .set) (N′.lowered (v .set) ∷ [])
+  is-set v g =
+      let k = LL.owed T.the-type T′.the-laws v (T′.lowered v ∷ []) g .0 in
+      subst (Is N.the-row (v .set)) (N′.lowers .val-is (v .set) _ k) k
 
-  is-state : Is T.the-row h (T′.lowered h ∷ []) → Is S.the-row (h .state) (S′.lowered (h .state) ∷ [])
-  is-state g =
-      let k = LL.owed T.the-type T′.the-laws h (T′.lowered h ∷ []) g .1 .1 .1 .1 .0 in
-      subst (Is S.the-row (h .state)) (S′.lowers .val-is (h .state) _ k) k
+  is-state : (v : Voice) → Is T.the-row v (T′.lowered v ∷ []) → Is S.the-row (v .state) (S′.lowered (v .state) ∷ [])
+  is-state v g =
+      let k = LL.owed T.the-type T′.the-laws v (T′.lowered v ∷ []) g .1 .1 .1 .1 .0 in
+      subst (Is S.the-row (v .state)) (S′.lowers .val-is (v .state) _ k) k
 
-  -- what closing the borrow asks: the voice with another state
-  made : (s : State) → Is T.the-row h (T′.lowered h ∷ []) → Is S.the-row s (S′.lowered s ∷ []) → Is T.the-row (withState h s) (T′.lowered (withState h s) ∷ [])
-  made s g is =
-      let was = LL.owed T.the-type T′.the-laws h (T′.lowered h ∷ []) g in
-      let now-is = subst (Is S.the-row s) (S′.the-field-laws .tells (S.the-type .to s) _ is) is in
-      let k = LL.owes T.the-type T′.the-laws (withState h s) (was .0, (was .1 .0, (was .1 .1 .0, (was .1 .1 .1 .0, (now-is, tt))))) in
-      subst (Is T.the-row (withState h s)) (T′.lowers .val-is (withState h s) _ k) k
+  is-rng : (v : Voice) → Is T.the-row v (T′.lowered v ∷ []) → Is G.the-row (v .state .rng) (G′.lowered (v .state .rng) ∷ [])
+  is-rng v g =
+      let k = LL.owed S.the-type S′.the-laws (v .state) (S′.lowered (v .state) ∷ []) (is-state v g) .1 .1 .0 in
+      subst (Is G.the-row (v .state .rng)) (G′.lowers .val-is (v .state .rng) _ k) k
 
-  -- what the result says of the new state, and of the number
-  moved-state : (r : Moved) (w : Val) → Is R.the-row r (w ∷ []) → Is S.the-row (r .state) (S′.lowered (r .state) ∷ [])
-  moved-state r w is =
+  -- what closing the borrow asks: the voice with another noise number
+  abbrev withRng : Voice → Rng → Voice
+  withRng v x = withState v (stateOf (v .state .phases) (v .state .memories) x)
+
+  made : (v : Voice) (x : Rng) → Is T.the-row v (T′.lowered v ∷ []) → Is G.the-row x (G′.lowered x ∷ []) → Is T.the-row (withRng v x) (T′.lowered (withRng v x) ∷ [])
+  made v x g is =
+      let was = LL.owed T.the-type T′.the-laws v (T′.lowered v ∷ []) g in
+      let was-state = LL.owed S.the-type S′.the-laws (v .state) (S′.lowered (v .state) ∷ []) (is-state v g) in
+      let s = stateOf (v .state .phases) (v .state .memories) x in
+      let rng-is = subst (Is G.the-row x) (G′.the-field-laws .tells (G.the-type .to x) _ is) is in
+      let j = LL.owes S.the-type S′.the-laws s (was-state .0, (was-state .1 .0, (rng-is, tt))) in
+      let state-is = subst (Is S.the-row s) (S′.the-field-laws .tells (S.the-type .to s) _ j) j in
+      let k = LL.owes T.the-type T′.the-laws (withRng v x) (was .0, (was .1 .0, (was .1 .1 .0, (was .1 .1 .1 .0, (state-is, tt))))) in
+      subst (Is T.the-row (withRng v x)) (T′.lowers .val-is (withRng v x) _ k) k
+
+  -- what the result says of the new noise number, and of the number
+  moved-rng : (r : Moved) (w : Val) → Is R.the-row r (w ∷ []) → Is G.the-row (r .rng) (G′.lowered (r .rng) ∷ [])
+  moved-rng r w is =
       let k = LL.owed R.the-type R′.the-laws r (w ∷ []) is .1 .0 in
-      subst (Is S.the-row (r .state)) (S′.lowers .val-is (r .state) _ k) k
+      subst (Is G.the-row (r .rng)) (G′.lowers .val-is (r .rng) _ k) k
 
   number-fits : (r : Moved) (w : Val) → Is R.the-row r (w ∷ []) → r .number < 2 ^ 32
   number-fits r w is = LL.owed R.the-type R′.the-laws r (w ∷ []) is .0 .1
 
-  abbrev Alive : ℕ → Item 𝓤
-  Alive ν = ‵ (flft (ν ∷ []) fullShare) ⊛ ‵ (flft κ₁ q₁) ⊛ ‵ (flft κ₂ q₂) ⊛ ‵ (flft κ₃ q₃) ⊛ ‵ (flft κ₄ q₄) ⊛ ‵ (flft κ₅ q₅) ⊛ ‵ (flft κ₆ q₆) ⊛ ‵ ftrue
+  abbrev Tokens : Item 𝓤
+  Tokens = ‵ (flft κ₁ q₁) ⊛ ‵ (flft κ₂ q₂) ⊛ ‵ (flft κ₃ q₃) ⊛ ‵ (flft κ₄ q₄) ⊛ ‵ (flft κ₅ q₅) ⊛ ‵ (flft κ₆ q₆) ⊛ ‵ ftrue
 
-  abbrev Passed : ℕ → GName → GName → GName → Fml
-  Passed ν γ₁ γ₂ γ₃ = fsep (N.the-row .own (h .set) (N′.lowered (h .set) ∷ [])) (fsep (ToLists 𝓤 H A W (named 0) (ν ∷ []) fullShare h b o γ₁) (fsep (ToPartials 𝓤 H A W (named 0) (ν ∷ []) fullShare h b o γ₂) (fsep (ToNoise 𝓤 H A W (named 0) (ν ∷ []) fullShare h b o γ₃) (fsep (S.the-row .own (h .state) (S′.lowered (h .state) ∷ [])) (fsep (B.the-row .own bl (B′.lowered bl ∷ [])) (fsep Freq (fsep G0 (fsep G1 (fsep G2 (fsep G3 (fsep Out ftrue)))))))))))
+  abbrev Alive : ℕ → ℕ → ℕ → Item 𝓤
+  Alive ν μ π = ‵ (flft (ν ∷ []) fullShare) ⊛ ‵ (flft (μ ∷ []) fullShare) ⊛ ‵ (flft (π ∷ []) fullShare) ⊛ Tokens
 
-  goes : (ν : ℕ) (γ₁ γ₂ γ₃ : GName) → ent 𝓤 (⋆ 𝓤 H A (Alive ν ∷ ‵ (Passed ν γ₁ γ₂ γ₃) ∷ [])) (Work 𝓤 H A at-mem run .pre (to-work ν γ₁ γ₂ γ₃))
-  goes ν γ₁ γ₂ γ₃ = qed W (Alive ν ∷ ‵ (Passed ν γ₁ γ₂ γ₃) ∷ []) ∵ join ! $ frame ! $ done !
+  abbrev Passed : ℕ → ℕ → ℕ → Names → Fml
+  Passed ν μ π γ = fsep (N.the-row .own (h .set) (N′.lowered (h .set) ∷ [])) (fsep (ToLists 𝓤 H A W h b o (named 0) (ν ∷ []) (μ ∷ []) (π ∷ []) γ) (fsep (ToPartials 𝓤 H A W h b o (named 0) (ν ∷ []) (μ ∷ []) (π ∷ []) γ) (fsep (ToNoise 𝓤 H A W h b o (named 0) (ν ∷ []) (μ ∷ []) (π ∷ []) γ) (fsep (ToPhases 𝓤 H A W h b o (named 1) (ν ∷ []) (μ ∷ []) (π ∷ []) γ) (fsep (ToMemories 𝓤 H A W h b o (named 2) (ν ∷ []) (μ ∷ []) (π ∷ []) γ) (fsep (G.the-row .own (h .state .rng) (G′.lowered (h .state .rng) ∷ [])) (fsep (B.the-row .own bl (B′.lowered bl ∷ [])) (fsep Freq (fsep G0 (fsep G1 (fsep G2 (fsep G3 (fsep Out ftrue)))))))))))))
+
+  goes : (ν μ π : ℕ) (γ : Names) → ent 𝓤 (⋆ 𝓤 H A (Alive ν μ π ∷ ‵ (Passed ν μ π γ) ∷ [])) (Work 𝓤 H A at-mem run .pre (to-work ν μ π γ))
+  goes ν μ π γ = qed W (Alive ν μ π ∷ ‵ (Passed ν μ π γ) ∷ []) ∵ join ! $ frame ! $ done !
 
   abbrev Lasts : Type 0
-  Lasts = Unit {0} × (Unit {0} × (Unit {0} × (Unit {0} × (Unit {0} × (Unit {0} × (Unit {0} × (Unit {0} × (Unit {0} × (Unit {0} × (Unit {0} × (List Float × (Unit {0}))))))))))))
+  Lasts = Unit {0} × (Unit {0} × (Unit {0} × (Unit {0} × (List Float × (List Float × (Unit {0} × (Unit {0} × (Unit {0} × (Unit {0} × (Unit {0} × (Unit {0} × (Unit {0} × (List Float × (Unit {0}))))))))))))))
 
-  abbrev Said : Moved → List Float → Type 0
-  Said r zs = PlaysParts h c (os .now) r zs
+  abbrev Said : Moved → List Float → List Float → List Float → Type 0
+  Said r ps ms zs = PlaysParts h c (os .now) r ps ms zs
 
-  exits : (r : Moved) (zs : List Float) → Is B.the-row bl (B′.lowered bl ∷ []) → Said r zs → length zs ≡ length (os .now) → r .number < 2 ^ 32
-      → ent 𝓤 (⋆ 𝓤 H A (‵ (fobs γ (T.the-row .coded .code (withState h (r .state)))) ∷ ‵ (fbor κ (Body (mem T.the-row) b o γ)) ∷ ‵ (flft κ q) ∷ (‵ (flft κ₁ q₁) ⊛ ‵ (flft κ₂ q₂) ⊛ ‵ (flft κ₃ q₃) ⊛ ‵ (flft κ₄ q₄) ⊛ ‵ (flft κ₅ q₅) ⊛ ‵ (flft κ₆ q₆) ⊛ ‵ ftrue) ∷ ‵ (finally f32 (os .name) zs) ∷ ‵ Freq ∷ ‵ G0 ∷ ‵ G1 ∷ ‵ G2 ∷ ‵ G3 ∷ [])) (Post (vint w32 (r .number)))
-  exits r zs is-b e l fits =
-      qed W (‵ (fobs γ (T.the-row .coded .code (withState h (r .state)))) ∷ ‵ (fbor κ (Body (mem T.the-row) b o γ)) ∷ ‵ (flft κ q) ∷ (‵ (flft κ₁ q₁) ⊛ ‵ (flft κ₂ q₂) ⊛ ‵ (flft κ₃ q₃) ⊛ ‵ (flft κ₄ q₄) ⊛ ‵ (flft κ₅ q₅) ⊛ ‵ (flft κ₆ q₆) ⊛ ‵ ftrue) ∷ ‵ (finally f32 (os .name) zs) ∷ ‵ Freq ∷ ‵ G0 ∷ ‵ G1 ∷ ‵ G2 ∷ ‵ G3 ∷ []) ∵
-      suffices ! _ (ends-at 𝓤 H A f.ended stayed (f.clauses 𝓤 H A at-mem run) W (((κ, (κ₁, (κ₂, (κ₃, (κ₄, (κ₅, (κ₆, tt))))))), (q, (q₁, (q₂, (q₃, (q₄, (q₅, (q₆, tt))))))), tt, a, vals), tt) (vint w32 (r .number)) (r .number) (withState h (r .state), (tt, (tt, (tt, (tt, (tt, (tt, (zs, tt)))))))) (tt, (tt, (tt, (tt, (tt, (tt, (tt, (l, tt))))))))) $
-      says ! (plays-in h c (os .now) r zs e) $ move ! (2 ∷ 3 ∷ []) $ join ! $ frame ! $
+  abbrev after : Moved → List Float → List Float → Voice
+  after r ps ms = withState h (stateOf ps ms (r .rng))
+
+  exits : (r : Moved) (ps ms zs : List Float) → Is B.the-row bl (B′.lowered bl ∷ []) → Said r ps ms zs → length zs ≡ length (os .now) → r .number < 2 ^ 32
+      → ent 𝓤 (⋆ 𝓤 H A (‵ (fobs γ (T.the-row .coded .code (after r ps ms))) ∷ ‵ (fbor κ (Body (mem T.the-row) b o γ)) ∷ ‵ (flft κ q) ∷ Tokens ∷ ‵ (finally f32 (os .name) zs) ∷ ‵ Freq ∷ ‵ G0 ∷ ‵ G1 ∷ ‵ G2 ∷ ‵ G3 ∷ [])) (Post (vint w32 (r .number)))
+  exits r ps ms zs is-b e l fits =
+      qed W (‵ (fobs γ (T.the-row .coded .code (after r ps ms))) ∷ ‵ (fbor κ (Body (mem T.the-row) b o γ)) ∷ ‵ (flft κ q) ∷ Tokens ∷ ‵ (finally f32 (os .name) zs) ∷ ‵ Freq ∷ ‵ G0 ∷ ‵ G1 ∷ ‵ G2 ∷ ‵ G3 ∷ []) ∵
+      suffices ! _ (ends-at 𝓤 H A f.ended stayed (f.clauses 𝓤 H A at-mem run) W (((κ, (κ₁, (κ₂, (κ₃, (κ₄, (κ₅, (κ₆, tt))))))), (q, (q₁, (q₂, (q₃, (q₄, (q₅, (q₆, tt))))))), tt, a, vals), tt) (vint w32 (r .number)) (r .number) (after r ps ms, (tt, (tt, (tt, (tt, (tt, (tt, (zs, tt)))))))) (tt, (tt, (tt, (tt, (tt, (tt, (tt, (l, tt))))))))) $
+      says ! (plays-in h c (os .now) r ps ms zs e) $ move ! (2 ∷ 3 ∷ []) $ join ! $ frame ! $
       feqI ! (List Val) (vptr b o ∷ []) (vptr b o ∷ []) refl $ fjoin3 ! $ nothing ! $ move ! (2 ∷ 0 ∷ []) $ fjoin ! $ move ! (6 ∷ 0 ∷ []) $ fjoin ! $ move ! (5 ∷ 0 ∷ []) $ fjoin ! $ move ! (4 ∷ 0 ∷ []) $ fjoin ! $ move ! (3 ∷ 0 ∷ []) $ fjoin ! $ move ! (2 ∷ 0 ∷ []) $ fjoin ! $
       owned ! B.the-row (Is B.the-row) (LL.makes B.the-type B′.the-plain 𝓤 H A) bl _ is-b $ fjoin ! $ move ! (1 ∷ 0 ∷ []) $ fjoin ! $
       owned ! u32 (Is u32) (uint-makes 𝓤 H A W w32) (r .number) _ (refl, fits) $ move ! (1 ∷ 0 ∷ []) $ done !
@@ -208,61 +232,66 @@ module _ {M : Type 1} (𝓤 : URA M) (H : Heap 𝓤) (A : Atoms 𝓤) (W : Given
     walk : Is B.the-row bl (B′.lowered bl ∷ []) → Room f32 (length (fs .now)) → Room f32 (length (s0 .now)) → Room f32 (length (s1 .now)) → Room f32 (length (s2 .now)) → Room f32 (length (s3 .now)) → Room f32 (length (os .now))
         → ent 𝓤 (onEntry 𝓤 H A f.signature (κ, (κ₁, (κ₂, (κ₃, (κ₄, (κ₅, (κ₆, tt))))))) (q, (q₁, (q₂, (q₃, (q₄, (q₅, (q₆, tt))))))) a vals) (WpFn 𝓤 H C Λ code.function (vptr b o ∷ B′.lowered bl ∷ vfs ∷ vs0 ∷ vs1 ∷ vs2 ∷ vs3 ∷ vo ∷ []) Post)
     walk is-b rf r0 r1 r2 r3 ro =
-        qed W ((‵ (flft κ q) ⊛ ‵ (flft κ₁ q₁) ⊛ ‵ (flft κ₂ q₂) ⊛ ‵ (flft κ₃ q₃) ⊛ ‵ (flft κ₄ q₄) ⊛ ‵ (flft κ₅ q₅) ⊛ ‵ (flft κ₆ q₆) ⊛ ‵ ftrue) ∷ ‵ (owns (MutRef (named 0) κ T.the-row ∷ B.the-row ∷ ShrSlice (named 1) κ₁ f32 ∷ ShrSlice (named 2) κ₂ f32 ∷ ShrSlice (named 3) κ₃ f32 ∷ ShrSlice (named 4) κ₄ f32 ∷ ShrSlice (named 5) κ₅ f32 ∷ MutSlice (named 6) κ₆ f32 ∷ []) a vals) ∷ []) ∵ enter ! C Λ code.function (vptr b o ∷ B′.lowered bl ∷ vfs ∷ vs0 ∷ vs1 ∷ vs2 ∷ vs3 ∷ vo ∷ []) _ $
-        alloc1 ! (λ l₀. alloc1 ! (λ l₁. alloc1 ! (λ l₂. alloc1 ! (λ l₃. alloc1 ! (λ l₄. alloc1 ! (λ l₅. alloc1 ! (λ l₆. alloc1 ! (λ l₇. alloc1 ! (λ l₈. alloc1 ! (λ l₉. alloc1 ! (λ l₁₀. alloc1 ! (λ l₁₁. alloc1 ! (λ l₁₂. alloc1 ! (λ l₁₃. alloc1 ! (λ l₁₄. alloc1 ! (λ l₁₅. alloc1 ! (λ l₁₆. alloc1 ! (λ l₁₇. alloc0 ! $ params1 ! $
-        pass1 ! (init ! 32 refl (tt, tt)) $ pass1 ! (init ! 30 refl (LL.lawful B.the-type B′.the-laws 𝓤 H A W .typed bl _ is-b .0)) $ pass1 ! (init ! 28 refl (tt, (tt, (record { fits = rf .0 }, tt)))) $ pass1 ! (init ! 26 refl (tt, (tt, (record { fits = r0 .0 }, tt)))) $ pass1 ! (init ! 24 refl (tt, (tt, (record { fits = r1 .0 }, tt)))) $ pass1 ! (init ! 22 refl (tt, (tt, (record { fits = r2 .0 }, tt)))) $ pass1 ! (init ! 20 refl (tt, (tt, (record { fits = r3 .0 }, tt)))) $ pass1 ! (init ! 18 refl (tt, (tt, (record { fits = ro .0 }, tt)))) $ pass0 ! $
+        qed W ((‵ (flft κ q) ⊛ Tokens) ∷ ‵ (owns (MutRef (named 0) κ T.the-row ∷ B.the-row ∷ ShrSlice (named 1) κ₁ f32 ∷ ShrSlice (named 2) κ₂ f32 ∷ ShrSlice (named 3) κ₃ f32 ∷ ShrSlice (named 4) κ₄ f32 ∷ ShrSlice (named 5) κ₅ f32 ∷ MutSlice (named 6) κ₆ f32 ∷ []) a vals) ∷ []) ∵ enter ! C Λ code.function (vptr b o ∷ B′.lowered bl ∷ vfs ∷ vs0 ∷ vs1 ∷ vs2 ∷ vs3 ∷ vo ∷ []) _ $
+        alloc1 ! (λ l₀. alloc1 ! (λ l₁. alloc1 ! (λ l₂. alloc1 ! (λ l₃. alloc1 ! (λ l₄. alloc1 ! (λ l₅. alloc1 ! (λ l₆. alloc1 ! (λ l₇. alloc1 ! (λ l₈. alloc1 ! (λ l₉. alloc1 ! (λ l₁₀. alloc1 ! (λ l₁₁. alloc1 ! (λ l₁₂. alloc1 ! (λ l₁₃. alloc1 ! (λ l₁₄. alloc1 ! (λ l₁₅. alloc1 ! (λ l₁₆. alloc1 ! (λ l₁₇. alloc1 ! (λ l₁₈. alloc1 ! (λ l₁₉. alloc0 ! $ params1 ! $
+        pass1 ! (init ! 36 refl (tt, tt)) $ pass1 ! (init ! 34 refl (LL.lawful B.the-type B′.the-laws 𝓤 H A W .typed bl _ is-b .0)) $ pass1 ! (init ! 32 refl (tt, (tt, (record { fits = rf .0 }, tt)))) $ pass1 ! (init ! 30 refl (tt, (tt, (record { fits = r0 .0 }, tt)))) $ pass1 ! (init ! 28 refl (tt, (tt, (record { fits = r1 .0 }, tt)))) $ pass1 ! (init ! 26 refl (tt, (tt, (record { fits = r2 .0 }, tt)))) $ pass1 ! (init ! 24 refl (tt, (tt, (record { fits = r3 .0 }, tt)))) $ pass1 ! (init ! 22 refl (tt, (tt, (record { fits = ro .0 }, tt)))) $ pass0 ! $
         -- the borrow of the voice is opened
-        move ! (37 ∷ []) $ fsplit ! $ fsplit3 ! $ drop ! $ move ! (39 ∷ []) $ split ! $ move ! (2 ∷ 3 ∷ 0 ∷ []) $
+        move ! (41 ∷ []) $ fsplit ! $ fsplit3 ! $ drop ! $ move ! (43 ∷ []) $ split ! $ move ! (2 ∷ 3 ∷ 0 ∷ []) $
         opens ! tt T.the-row {h = h} b o (λ vs. spelt ! T.the-row (Is T.the-row) (shows 𝓤 H A T.the-row) (λ d. T′.lowered d ∷ []) (T′.lowers .val-is) fullShare h vs b o $
         move ! (1 ∷ []) $ peeks ! T.the-row (Is T.the-row) (shows 𝓤 H A T.the-row) h (T′.lowered h ∷ []) (λ g. move ! (1 ∷ 0 ∷ []) $ use1 W (‵ (fat fullShare T′.mir b o (T′.lowered h))) (W .laws .raw-at fullShare T′.mir b o (T′.lowered h)) $
-        -- [the voice's cell; what it owns; the open borrow; obs; auth; the other tokens; the other parameters; _17; …; _0; …]
-        assigns ! (of-opd ! (load ! (from ! (hop ! (look ! 39 refl) (fld ! refl (stop !)))) (look-in ! 0 (sub ! 0 refl (whole !))))) (from ! (stop !)) (init ! 23 refl (LL.lawful N.the-type N′.the-laws 𝓤 H A W .typed (h .set) _ (is-set g) .0)) $
-        assigns ! (of-opd ! (load ! (from ! (hop ! (look ! 39 refl) (fld ! refl (stop !)))) (look-in ! 0 (sub ! 4 refl (whole !))))) (from ! (stop !)) (init ! 21 refl (LL.lawful S.the-type S′.the-laws 𝓤 H A W .typed (h .state) _ (is-state g) .0)) $
-        assigns ! (addr ! (from ! (hop ! (look ! 39 refl) (fld ! refl (stop !))))) (from ! (stop !)) (init ! 15 refl (tt, tt)) $
-        assigns ! (addr ! (from ! (hop ! (look ! 39 refl) (fld ! refl (stop !))))) (from ! (stop !)) (init ! 13 refl (tt, tt)) $
-        assigns ! (addr ! (from ! (hop ! (look ! 39 refl) (fld ! refl (stop !))))) (from ! (stop !)) (init ! 11 refl (tt, tt)) $
-        assigns ! (addr ! (from ! (fld ! refl (hop ! (look-in ! 25 (sub ! 0 refl (whole !))) (stop !))))) (from ! (stop !)) (init ! 9 refl (tt, tt)) $
-        assigns ! (agg ! (and-then ! (load ! (from ! (stop !)) (look ! 9 refl)) (and-then ! (load ! (from ! (fld ! refl (stop !))) (look-in ! 25 (sub ! 1 refl (whole !)))) (no-more !)))) (from ! (stop !)) (init ! 7 refl (tt, (tt, (record { fits = ro .0 }, tt)))) $
-        -- the lists are lent for a lifetime ν of the call
-        use1 W (‵ (cellAt fullShare (T.the-row .mir) (T′.lowered h ∷ []) b o)) (W .laws .at-raw fullShare T′.mir b o (T′.lowered h)) $ lft-new ! tt (λ ν. move ! (1 ∷ 2 ∷ []) $ use2 W (‵ (partAt T.the-row fullShare h b o)) (whole-in 𝓤 H A W (named 0) (ν ∷ []) fullShare h b o (T′.lowered h ∷ [])) $
-        use2 W (later (some (λ (γ₁ : GName). some (λ (γ₂ : GName). some (λ (γ₃ : GName). ‵ (ToLists 𝓤 H A W (named 0) (ν ∷ []) fullShare h b o γ₁) ⊛ ‵ (ToPartials 𝓤 H A W (named 0) (ν ∷ []) fullShare h b o γ₂) ⊛ ‵ (ToNoise 𝓤 H A W (named 0) (ν ∷ []) fullShare h b o γ₃) ⊛ ‵ (flft (ν ∷ []) fullShare) ⊛ ‵ (Lender 𝓤 H A W (named 0) (ν ∷ []) fullShare h b o))))))
-        (lends-lists 𝓤 H A W (named 0) (ν ∷ []) fullShare h b o) $ await ! tt $ pick ! (λ γ₁. pick ! (λ γ₂. pick ! (λ γ₃. split ! $ move ! (1 ∷ []) $ split ! $ move ! (1 ∷ []) $ split ! $ move ! (1 ∷ []) $ split ! $
-        -- what the work is passed: [a token of ν; the lender's part; the three lists; the open borrow; obs; auth; the other tokens; the other parameters; _17; …]
-        move ! (9 ∷ []) $ fsplit ! $ drop ! $
+        -- [the voice's cell; what it owns; the open borrow; obs; auth; the other tokens; the other parameters; _19; …; _0; …]
+        assigns ! (of-opd ! (load ! (from ! (hop ! (look ! 43 refl) (fld ! refl (stop !)))) (look-in ! 0 (sub ! 0 refl (whole !))))) (from ! (stop !)) (init ! 27 refl (LL.lawful N.the-type N′.the-laws 𝓤 H A W .typed (h .set) _ (is-set h g) .0)) $
+        assigns ! (of-opd ! (load ! (from ! (hop ! (look ! 43 refl) (fld ! refl (fld ! refl (stop !))))) (look-in ! 0 (sub ! 2 refl (sub ! 4 refl (whole !)))))) (from ! (stop !)) (init ! 25 refl (LL.lawful G.the-type G′.the-laws 𝓤 H A W .typed (h .state .rng) _ (is-rng h g) .0)) $
+        assigns ! (addr ! (from ! (hop ! (look ! 43 refl) (fld ! refl (stop !))))) (from ! (stop !)) (init ! 19 refl (tt, tt)) $
+        assigns ! (addr ! (from ! (hop ! (look ! 43 refl) (fld ! refl (stop !))))) (from ! (stop !)) (init ! 17 refl (tt, tt)) $
+        assigns ! (addr ! (from ! (hop ! (look ! 43 refl) (fld ! refl (stop !))))) (from ! (stop !)) (init ! 15 refl (tt, tt)) $
+        assigns ! (addr ! (from ! (hop ! (look ! 43 refl) (fld ! refl (fld ! refl (stop !)))))) (from ! (stop !)) (init ! 13 refl (tt, tt)) $
+        assigns ! (addr ! (from ! (hop ! (look ! 43 refl) (fld ! refl (fld ! refl (stop !)))))) (from ! (stop !)) (init ! 11 refl (tt, tt)) $
+        assigns ! (addr ! (from ! (fld ! refl (hop ! (look-in ! 29 (sub ! 0 refl (whole !))) (stop !))))) (from ! (stop !)) (init ! 9 refl (tt, tt)) $
+        assigns ! (agg ! (and-then ! (load ! (from ! (stop !)) (look ! 9 refl)) (and-then ! (load ! (from ! (fld ! refl (stop !))) (look-in ! 29 (sub ! 1 refl (whole !)))) (no-more !)))) (from ! (stop !)) (init ! 7 refl (tt, (tt, (record { fits = ro .0 }, tt)))) $
+        -- the lists, the phases and the memories are lent for lifetimes ν, μ and π of the call
+        use1 W (‵ (cellAt fullShare (T.the-row .mir) (T′.lowered h ∷ []) b o)) (W .laws .at-raw fullShare T′.mir b o (T′.lowered h)) $ use2 W (‵ (partAt T.the-row fullShare h b o)) (whole-in 𝓤 H A W h b o (T′.lowered h ∷ [])) $
+        lft-new ! tt (λ ν. lft-new ! tt (λ μ. lft-new ! tt (λ π. move ! (3 ∷ []) $
+        use1 W (later (some (λ (γ : Names). ‵ (ToLists 𝓤 H A W h b o (named 0) (ν ∷ []) (μ ∷ []) (π ∷ []) γ) ⊛ ‵ (ToPartials 𝓤 H A W h b o (named 0) (ν ∷ []) (μ ∷ []) (π ∷ []) γ) ⊛ ‵ (ToNoise 𝓤 H A W h b o (named 0) (ν ∷ []) (μ ∷ []) (π ∷ []) γ) ⊛ ‵ (ToPhases 𝓤 H A W h b o (named 1) (ν ∷ []) (μ ∷ []) (π ∷ []) γ) ⊛ ‵ (ToMemories 𝓤 H A W h b o (named 2) (ν ∷ []) (μ ∷ []) (π ∷ []) γ) ⊛ raw (Kept 𝓤 H A W h b o (named 0) (ν ∷ []) (μ ∷ []) (π ∷ []) γ))))
+        (lends 𝓤 H A W h b o (named 0) (ν ∷ []) (μ ∷ []) (π ∷ [])) $ await ! tt $ pick ! (λ γ. split ! $ move ! (1 ∷ []) $ split ! $ move ! (1 ∷ []) $ split ! $ move ! (1 ∷ []) $ split ! $ move ! (1 ∷ []) $ split ! $
+        -- what the work is passed: [memories; what the lender keeps; phases; noise; partials; lists; tokens of π, μ, ν; the open borrow; obs; auth; the other tokens; the other parameters; _19; …]
+        move ! (13 ∷ []) $ fsplit ! $ drop ! $
         fsplit ! $ use1 W (‵ Freq ⊛ ‵ Freq) (shr-slice-copy 𝓤 H A W (named 1) κ₁ f32 .twice fs (vfs ∷ [])) $ split ! $ move ! (2 ∷ []) $
         fsplit ! $ use1 W (‵ G0 ⊛ ‵ G0) (shr-slice-copy 𝓤 H A W (named 2) κ₂ f32 .twice s0 (vs0 ∷ [])) $ split ! $ move ! (2 ∷ []) $
         fsplit ! $ use1 W (‵ G1 ⊛ ‵ G1) (shr-slice-copy 𝓤 H A W (named 3) κ₃ f32 .twice s1 (vs1 ∷ [])) $ split ! $ move ! (2 ∷ []) $
         fsplit ! $ use1 W (‵ G2 ⊛ ‵ G2) (shr-slice-copy 𝓤 H A W (named 4) κ₄ f32 .twice s2 (vs2 ∷ [])) $ split ! $ move ! (2 ∷ []) $
         fsplit ! $ use1 W (‵ G3 ⊛ ‵ G3) (shr-slice-copy 𝓤 H A W (named 5) κ₅ f32 .twice s3 (vs3 ∷ [])) $ split ! $ move ! (2 ∷ []) $
         move ! (1 ∷ 0 ∷ []) $ fjoin ! $ move ! (2 ∷ 0 ∷ []) $ fjoin ! $ move ! (3 ∷ 0 ∷ []) $ fjoin ! $ move ! (4 ∷ 0 ∷ []) $ fjoin ! $ move ! (5 ∷ 0 ∷ []) $ fjoin ! $
-        owned ! B.the-row (Is B.the-row) (LL.makes B.the-type B′.the-plain 𝓤 H A) bl _ is-b $ fjoin ! $ owned ! S.the-row (Is S.the-row) (LL.makes S.the-type S′.the-plain 𝓤 H A) (h .state) _ (is-state g) $ fjoin ! $
-        move ! (8 ∷ 0 ∷ []) $ fjoin ! $ move ! (8 ∷ 0 ∷ []) $ fjoin ! $ move ! (8 ∷ 0 ∷ []) $ fjoin ! $
-        owned ! N.the-row (Is N.the-row) (LL.makes N.the-type N′.the-plain 𝓤 H A) (h .set) _ (is-set g) $ fjoin ! $
-        move ! (6 ∷ 11 ∷ []) $ join ! $ use2 W (raw (Work 𝓤 H A at-mem run .pre (to-work ν γ₁ γ₂ γ₃))) (goes ν γ₁ γ₂ γ₃) $
-        -- [what the work asks; g3; g2; g1; g0; freq; the lender's part; the open borrow; obs; auth; _17; …; _0; …]
-        calls-at ! fm (Work 𝓤 H A at-mem run) known (to-work ν γ₁ γ₂ γ₃) (and-then ! (load ! (from ! (stop !)) (look ! 26 refl)) (and-then ! (load ! (from ! (stop !)) (look ! 18 refl)) (and-then ! (load ! (from ! (stop !)) (look ! 16 refl)) (and-then ! (load ! (from ! (stop !)) (look ! 14 refl)) (and-then ! (load ! (from ! (stop !)) (look ! 24 refl)) (and-then ! (load ! (from ! (stop !)) (look ! 40 refl)) (and-then ! (load ! (from ! (stop !)) (look ! 38 refl)) (and-then ! (load ! (from ! (stop !)) (look ! 36 refl)) (and-then ! (load ! (from ! (stop !)) (look ! 34 refl)) (and-then ! (load ! (from ! (stop !)) (look ! 32 refl)) (and-then ! (load ! (from ! (stop !)) (look ! 30 refl)) (and-then ! (load ! (from ! (stop !)) (look ! 10 refl)) (no-more !))))))))))))) (λ w.
-        use1 W (later (some (λ (r : Moved). (Alive ν ⊛ ‵ (R.the-row .own r (w ∷ []))) ⊛ raw (ensured 𝓤 H A parts.ended (parts.clauses 𝓤 H A at-mem run) (ν ∷ [], (κ₁, (κ₂, (κ₃, (κ₄, (κ₅, (κ₆, tt))))))) (passed γ₁ γ₂ γ₃) tt r)))) (id⊢ 𝓤 _) $ await ! tt $ pick ! (λ r.
-        -- what the work ensures, at some last samples
-        split ! $ move ! (1 ∷ []) $ use1 W (some (λ (zs : Lasts). ‵ (lasts parts.ended (ν ∷ [], (κ₁, (κ₂, (κ₃, (κ₄, (κ₅, (κ₆, tt))))))) (passed γ₁ γ₂ γ₃) zs) ⊛ raw (fact 𝓤 (Said r (zs .1 .1 .1 .1 .1 .1 .1 .1 .1 .1 .1 .0))))) (id⊢ 𝓤 _) $ pick ! (λ zs.
-        split ! $ move ! (1 ∷ []) $ heard ! (Said r (zs .1 .1 .1 .1 .1 .1 .1 .1 .1 .1 .1 .0)) (λ e. fsplit ! $ drop ! $ fsplit ! $ drop ! $ fsplit ! $ drop ! $ fsplit ! $ drop ! $ fsplit ! $ drop ! $ fsplit ! $ drop ! $ fsplit ! $ drop ! $ fsplit ! $ drop ! $ fsplit ! $ drop ! $ fsplit ! $ drop ! $ fsplit ! $ drop ! $ fsplit ! $ fsplit ! $ move ! (1 ∷ []) $ feqL ! (λ l.
-        -- [the last samples; …; the tokens and the result; the inputs; the lender's part; …]
-        move ! (2 ∷ []) $ split ! $ move ! (1 ∷ []) $ peeks ! R.the-row (Is R.the-row) (shows 𝓤 H A R.the-row) r (w ∷ []) (λ is.
-        land ! (from ! (stop !)) (init ! 25 refl (LL.lawful R.the-type R′.the-laws 𝓤 H A W .typed r _ is .0)) $ rewrite ! 25 (λ (u : Val). ‵ (fat fullShare R′.mir l₁₁ 0 u)) (ap only (R′.lowers .val-is r (w ∷ []) is)) refl $
-        -- the lifetime is ended, and the voice is whole again
-        move ! (1 ∷ []) $ split ! $ lft-end ! tt $ move ! (0 ∷ 10 ∷ []) $ lent-back ! tt $
-        use1 W (some (λ (us : List Val). ‵ (cellAt fullShare (T.the-row .mir) us b o) ⊛ ‵ (T.the-row .own h us))) (whole-out 𝓤 H A W (named 0) (ν ∷ []) fullShare h b o) $ pick ! (λ us. split ! $
-        spelt ! T.the-row (Is T.the-row) (shows 𝓤 H A T.the-row) (λ d. T′.lowered d ∷ []) (T′.lowers .val-is) fullShare h us b o $ move ! (1 ∷ []) $ drop ! $ use1 W (‵ (fat fullShare T′.mir b o (T′.lowered h))) (W .laws .raw-at fullShare T′.mir b o (T′.lowered h)) $
-        -- [the voice's cell; the tokens; the result; the last samples; …; the inputs; the open borrow; obs; auth; _17; …; _0; …]
-        assigns ! (of-opd ! (load ! (from ! (fld ! refl (stop !))) (look-in ! 25 (sub ! 1 refl (whole !))))) (from ! (stop !)) (init ! 23 refl (LL.lawful S.the-type S′.the-laws 𝓤 H A W .typed (r .state) _ (moved-state r w is) .0)) $
-        assigns ! (of-opd ! (load ! (from ! (stop !)) (look ! 23 refl))) (from ! (hop ! (look ! 45 refl) (fld ! refl (stop !)))) (store-in ! 0 (sub ! 4 refl (whole !)) (LL.lawful S.the-type S′.the-laws 𝓤 H A W .typed (r .state) _ (moved-state r w is) .0)) $
-        assigns ! (of-opd ! (load ! (from ! (fld ! refl (stop !))) (look-in ! 25 (sub ! 0 refl (whole !))))) (from ! (stop !)) (init ! 47 refl (tt, record { fits = number-fits r w is })) $
+        owned ! B.the-row (Is B.the-row) (LL.makes B.the-type B′.the-plain 𝓤 H A) bl _ is-b $ fjoin ! $ owned ! G.the-row (Is G.the-row) (LL.makes G.the-type G′.the-plain 𝓤 H A) (h .state .rng) _ (is-rng h g) $ fjoin ! $
+        move ! (6 ∷ 0 ∷ []) $ fjoin ! $ move ! (7 ∷ 0 ∷ []) $ fjoin ! $ move ! (7 ∷ 0 ∷ []) $ fjoin ! $ move ! (7 ∷ 0 ∷ []) $ fjoin ! $ move ! (7 ∷ 0 ∷ []) $ fjoin ! $
+        owned ! N.the-row (Is N.the-row) (LL.makes N.the-type N′.the-plain 𝓤 H A) (h .set) _ (is-set h g) $ fjoin ! $
+        move ! (7 ∷ 13 ∷ []) $ join ! $ move ! (8 ∷ 0 ∷ []) $ join ! $ move ! (8 ∷ 0 ∷ []) $ join ! $ use2 W (raw (Work 𝓤 H A at-mem run .pre (to-work ν μ π γ))) (goes ν μ π γ) $
+        -- [what the work asks; g3; g2; g1; g0; freq; what the lender keeps; the open borrow; obs; auth; _19; …; _0; …]
+        calls-at ! fm (Work 𝓤 H A at-mem run) known (to-work ν μ π γ) (and-then ! (load ! (from ! (stop !)) (look ! 30 refl)) (and-then ! (load ! (from ! (stop !)) (look ! 22 refl)) (and-then ! (load ! (from ! (stop !)) (look ! 20 refl)) (and-then ! (load ! (from ! (stop !)) (look ! 18 refl)) (and-then ! (load ! (from ! (stop !)) (look ! 16 refl)) (and-then ! (load ! (from ! (stop !)) (look ! 14 refl)) (and-then ! (load ! (from ! (stop !)) (look ! 28 refl)) (and-then ! (load ! (from ! (stop !)) (look ! 44 refl)) (and-then ! (load ! (from ! (stop !)) (look ! 42 refl)) (and-then ! (load ! (from ! (stop !)) (look ! 40 refl)) (and-then ! (load ! (from ! (stop !)) (look ! 38 refl)) (and-then ! (load ! (from ! (stop !)) (look ! 36 refl)) (and-then ! (load ! (from ! (stop !)) (look ! 34 refl)) (and-then ! (load ! (from ! (stop !)) (look ! 10 refl)) (no-more !))))))))))))))) (λ w.
+        use1 W (later (some (λ (r : Moved). (Alive ν μ π ⊛ ‵ (R.the-row .own r (w ∷ []))) ⊛ raw (ensured 𝓤 H A parts.ended (parts.clauses 𝓤 H A at-mem run) (lfts ν μ π) (passed γ) tt r)))) (id⊢ 𝓤 _) $ await ! tt $ pick ! (λ r.
+        -- what the work ensures, at some last phases, memories and samples
+        split ! $ move ! (1 ∷ []) $ use1 W (some (λ (zs : Lasts). ‵ (lasts parts.ended (lfts ν μ π) (passed γ) zs) ⊛ raw (fact 𝓤 (Said r (zs .1 .1 .1 .1 .0) (zs .1 .1 .1 .1 .1 .0) (zs .1 .1 .1 .1 .1 .1 .1 .1 .1 .1 .1 .1 .1 .0))))) (id⊢ 𝓤 _) $ pick ! (λ zs.
+        split ! $ move ! (1 ∷ []) $ heard ! (Said r (zs .1 .1 .1 .1 .0) (zs .1 .1 .1 .1 .1 .0) (zs .1 .1 .1 .1 .1 .1 .1 .1 .1 .1 .1 .1 .1 .0)) (λ e. fsplit ! $ drop ! $ fsplit ! $ drop ! $ fsplit ! $ drop ! $ fsplit ! $ drop ! $ fsplit ! $ move ! (1 ∷ []) $ fsplit ! $ move ! (1 ∷ []) $ fsplit ! $ drop ! $ fsplit ! $ drop ! $ fsplit ! $ drop ! $ fsplit ! $ drop ! $ fsplit ! $ drop ! $ fsplit ! $ drop ! $ fsplit ! $ drop ! $ fsplit ! $ fsplit ! $ move ! (1 ∷ []) $ feqL ! (λ l.
+        -- [the last samples; …; the last memories; the last phases; the tokens and the result; the inputs; what the lender keeps; …]
+        move ! (4 ∷ []) $ split ! $ move ! (1 ∷ []) $ peeks ! R.the-row (Is R.the-row) (shows 𝓤 H A R.the-row) r (w ∷ []) (λ is.
+        land ! (from ! (stop !)) (init ! 31 refl (LL.lawful R.the-type R′.the-laws 𝓤 H A W .typed r _ is .0)) $ rewrite ! 31 (λ (u : Val). ‵ (fat fullShare R′.mir l₁₁ 0 u)) (ap only (R′.lowers .val-is r (w ∷ []) is)) refl $
+        -- the lifetimes are ended, and the voice is whole again
+        move ! (1 ∷ []) $ split ! $ lft-end ! tt $ move ! (1 ∷ []) $ split ! $ lft-end ! tt $ move ! (1 ∷ []) $ split ! $ lft-end ! tt $
+        move ! (7 ∷ 14 ∷ []) $ join ! $ move ! (8 ∷ 0 ∷ []) $ join ! $ move ! (1 ∷ 0 ∷ []) $ join ! $ move ! (2 ∷ 0 ∷ []) $ join ! $ move ! (2 ∷ 0 ∷ []) $ join ! $
+        use1 W (later (‵ (partAt T.the-row fullShare (withState h (stateOf (zs .1 .1 .1 .1 .0) (zs .1 .1 .1 .1 .1 .0) (h .state .rng))) b o))) (back 𝓤 H A W h b o (named 0) (ν ∷ []) (μ ∷ []) (π ∷ []) γ (zs .1 .1 .1 .1 .0) (zs .1 .1 .1 .1 .1 .0)) $ await ! tt $
+        use1 W (some (λ (us : List Val). ‵ (cellAt fullShare (T.the-row .mir) us b o) ⊛ ‵ (T.the-row .own (withState h (stateOf (zs .1 .1 .1 .1 .0) (zs .1 .1 .1 .1 .1 .0) (h .state .rng))) us))) (whole-out 𝓤 H A W (withState h (stateOf (zs .1 .1 .1 .1 .0) (zs .1 .1 .1 .1 .1 .0) (h .state .rng))) b o) $ pick ! (λ us. split ! $
+        spelt ! T.the-row (Is T.the-row) (shows 𝓤 H A T.the-row) (λ d. T′.lowered d ∷ []) (T′.lowers .val-is) fullShare (withState h (stateOf (zs .1 .1 .1 .1 .0) (zs .1 .1 .1 .1 .1 .0) (h .state .rng))) us b o $ move ! (1 ∷ []) $ peeks ! T.the-row (Is T.the-row) (shows 𝓤 H A T.the-row) (withState h (stateOf (zs .1 .1 .1 .1 .0) (zs .1 .1 .1 .1 .1 .0) (h .state .rng))) (T′.lowered (withState h (stateOf (zs .1 .1 .1 .1 .0) (zs .1 .1 .1 .1 .1 .0) (h .state .rng))) ∷ []) (λ g′. drop ! $ use1 W (‵ (fat fullShare T′.mir b o (T′.lowered (withState h (stateOf (zs .1 .1 .1 .1 .0) (zs .1 .1 .1 .1 .1 .0) (h .state .rng)))))) (W .laws .raw-at fullShare T′.mir b o (T′.lowered (withState h (stateOf (zs .1 .1 .1 .1 .0) (zs .1 .1 .1 .1 .1 .0) (h .state .rng))))) $
+        -- [the voice's cell; the tokens; the result; the last samples; …; the inputs; the open borrow; obs; auth; _19; …; _0; …]
+        assigns ! (of-opd ! (load ! (from ! (fld ! refl (stop !))) (look-in ! 29 (sub ! 1 refl (whole !))))) (from ! (stop !)) (init ! 27 refl (LL.lawful G.the-type G′.the-laws 𝓤 H A W .typed (r .rng) _ (moved-rng r w is) .0)) $
+        assigns ! (of-opd ! (load ! (from ! (stop !)) (look ! 27 refl))) (from ! (hop ! (look ! 49 refl) (fld ! refl (fld ! refl (stop !))))) (store-in ! 0 (sub ! 2 refl (sub ! 4 refl (whole !))) (LL.lawful G.the-type G′.the-laws 𝓤 H A W .typed (r .rng) _ (moved-rng r w is) .0)) $
+        assigns ! (of-opd ! (load ! (from ! (fld ! refl (stop !))) (look-in ! 29 (sub ! 0 refl (whole !))))) (from ! (stop !)) (init ! 51 refl (tt, record { fits = number-fits r w is })) $
         -- the borrow is closed at the voice with the new state
-        use1 W (‵ (cellAt fullShare (T.the-row .mir) (T′.lowered (withState h (r .state)) ∷ []) b o)) (W .laws .at-raw fullShare T′.mir b o (T′.lowered (withState h (r .state)))) $
-        owned ! T.the-row (Is T.the-row) (LL.makes T.the-type T′.the-plain 𝓤 H A) (withState h (r .state)) _ (made (r .state) g (moved-state r w is)) $ move ! (1 ∷ 0 ∷ 11 ∷ 12 ∷ 13 ∷ []) $ closes ! tt T.the-row (withState h (r .state)) (T′.lowered (withState h (r .state)) ∷ []) b o $
-        -- [obs; the borrow; its token; the other tokens; the result; the last samples; …; g3; g2; g1; g0; freq; _17; …; _0; …]
-        returns ! (look ! 46 refl) $ forget ! 12 refl $ forget ! 14 refl $ forget ! 16 refl $ forget ! 18 refl $ forget ! 20 refl $ forget ! 22 refl $ forget ! 24 refl $ forget ! 26 refl $ forget ! 28 refl $ forget ! 30 refl $ forget ! 32 refl $ forget ! 34 refl $ forget ! 36 refl $ forget ! 38 refl $ forget ! 40 refl $ forget ! 42 refl $ forget ! 44 refl $ forget ! 46 refl $
-        move ! (46 ∷ 47 ∷ []) $ free1 ! $ move ! (44 ∷ 45 ∷ []) $ free1 ! $ move ! (42 ∷ 43 ∷ []) $ free1 ! $ move ! (40 ∷ 41 ∷ []) $ free1 ! $ move ! (38 ∷ 39 ∷ []) $ free1 ! $ move ! (36 ∷ 37 ∷ []) $ free1 ! $ move ! (34 ∷ 35 ∷ []) $ free1 ! $ move ! (32 ∷ 33 ∷ []) $ free1 ! $ move ! (30 ∷ 31 ∷ []) $ free1 ! $ move ! (28 ∷ 29 ∷ []) $ free1 ! $ move ! (26 ∷ 27 ∷ []) $ free1 ! $ move ! (24 ∷ 25 ∷ []) $ free1 ! $ move ! (22 ∷ 23 ∷ []) $ free1 ! $ move ! (20 ∷ 21 ∷ []) $ free1 ! $ move ! (18 ∷ 19 ∷ []) $ free1 ! $ move ! (16 ∷ 17 ∷ []) $ free1 ! $ move ! (14 ∷ 15 ∷ []) $ free1 ! $ move ! (12 ∷ 13 ∷ []) $ free1 ! $ free0 ! $
-        keep ! (0 ∷ 1 ∷ 2 ∷ 3 ∷ 5 ∷ 11 ∷ 10 ∷ 9 ∷ 8 ∷ 7 ∷ []) $ by ! (exits r (zs .1 .1 .1 .1 .1 .1 .1 .1 .1 .1 .1 .0) is-b e l (number-fits r w is)))))))))))))))))))))))))))))))))
+        use1 W (‵ (cellAt fullShare (T.the-row .mir) (T′.lowered (after r (zs .1 .1 .1 .1 .0) (zs .1 .1 .1 .1 .1 .0)) ∷ []) b o)) (W .laws .at-raw fullShare T′.mir b o (T′.lowered (after r (zs .1 .1 .1 .1 .0) (zs .1 .1 .1 .1 .1 .0)))) $
+        owned ! T.the-row (Is T.the-row) (LL.makes T.the-type T′.the-plain 𝓤 H A) (after r (zs .1 .1 .1 .1 .0) (zs .1 .1 .1 .1 .1 .0)) _ (made (withState h (stateOf (zs .1 .1 .1 .1 .0) (zs .1 .1 .1 .1 .1 .0) (h .state .rng))) (r .rng) g′ (moved-rng r w is)) $ move ! (1 ∷ 0 ∷ 11 ∷ 12 ∷ 13 ∷ []) $ closes ! tt T.the-row (after r (zs .1 .1 .1 .1 .0) (zs .1 .1 .1 .1 .1 .0)) (T′.lowered (after r (zs .1 .1 .1 .1 .0) (zs .1 .1 .1 .1 .1 .0)) ∷ []) b o $
+        -- [obs; the borrow; its token; the other tokens; the result; the last samples; …; g3; g2; g1; g0; freq; _19; …; _0; …]
+        returns ! (look ! 50 refl) $ forget ! 12 refl $ forget ! 14 refl $ forget ! 16 refl $ forget ! 18 refl $ forget ! 20 refl $ forget ! 22 refl $ forget ! 24 refl $ forget ! 26 refl $ forget ! 28 refl $ forget ! 30 refl $ forget ! 32 refl $ forget ! 34 refl $ forget ! 36 refl $ forget ! 38 refl $ forget ! 40 refl $ forget ! 42 refl $ forget ! 44 refl $ forget ! 46 refl $ forget ! 48 refl $ forget ! 50 refl $
+        move ! (50 ∷ 51 ∷ []) $ free1 ! $ move ! (48 ∷ 49 ∷ []) $ free1 ! $ move ! (46 ∷ 47 ∷ []) $ free1 ! $ move ! (44 ∷ 45 ∷ []) $ free1 ! $ move ! (42 ∷ 43 ∷ []) $ free1 ! $ move ! (40 ∷ 41 ∷ []) $ free1 ! $ move ! (38 ∷ 39 ∷ []) $ free1 ! $ move ! (36 ∷ 37 ∷ []) $ free1 ! $ move ! (34 ∷ 35 ∷ []) $ free1 ! $ move ! (32 ∷ 33 ∷ []) $ free1 ! $ move ! (30 ∷ 31 ∷ []) $ free1 ! $ move ! (28 ∷ 29 ∷ []) $ free1 ! $ move ! (26 ∷ 27 ∷ []) $ free1 ! $ move ! (24 ∷ 25 ∷ []) $ free1 ! $ move ! (22 ∷ 23 ∷ []) $ free1 ! $ move ! (20 ∷ 21 ∷ []) $ free1 ! $ move ! (18 ∷ 19 ∷ []) $ free1 ! $ move ! (16 ∷ 17 ∷ []) $ free1 ! $ move ! (14 ∷ 15 ∷ []) $ free1 ! $ move ! (12 ∷ 13 ∷ []) $ free1 ! $ free0 ! $
+        keep ! (0 ∷ 1 ∷ 2 ∷ 3 ∷ 5 ∷ 11 ∷ 10 ∷ 9 ∷ 8 ∷ 7 ∷ []) $ by ! (exits r (zs .1 .1 .1 .1 .0) (zs .1 .1 .1 .1 .1 .0) (zs .1 .1 .1 .1 .1 .1 .1 .1 .1 .1 .1 .1 .1 .0) is-b e l (number-fits r w is))))))))))))))))))))))))))))))))))))
 
 module _ {M : Type 1} (𝓤 : URA M) (H : Heap 𝓤) (A : Atoms 𝓤) (W : Given 𝓤 H A) (mem : Memory → SProp 𝓤) (run : Routine → Fun 𝓤) where
   sounder-play-in-walks : (C : Calls 𝓤 H) (Λ : Loops 𝓤 H) → FmC 𝓤 H (W .laws) C → Triple 𝓤 (C #player·play-parts) (Work 𝓤 H A mem run) → Walks 𝓤 H A f.ended stayed (WpFn 𝓤 H C Λ code.function) (f.clauses 𝓤 H A mem run)
