@@ -6,24 +6,24 @@ use lib.ListN.{length}
 use lib.Ieee.{Float}
 use Rattle.voice.specs.Input.{Call}
 use Rattle.voice.specs.Voice.{withState, stateOf}
-use Rattle.voice.specs.Question.{playNumber, playQuestion, accepted}
+use Rattle.voice.specs.Question.{playQuestion, accepted}
 use Rattle.player.specs.Block.{blockEnd}
 use Rattle.player.specs.inner.Passes.{BlockPlayed}
 use Rattle.player.specs.Play.{played, playedOut, Plays, PlaysParts}
 use Rattle.filters.specs.declared.rng.Rng.{Rng}
 use Rattle.player.specs.declared.playing.Moved.{Moved}
-use Rattle.voice.specs.declared.answer.PlayAnswer.{PlayAnswer}
+use Rattle.voice.specs.declared.answer.Played.{Played}
 use Rattle.voice.specs.declared.voice.Voice.{Voice}
-use Rattle.voice.proofs.QuestionLaws.{refused, refused-out}
+use Rattle.voice.proofs.QuestionLaws.{refused-out}
 
 module _ (v : Voice) (c : Call) (out : List Float) where
   abbrev q : ℕ
   q = playQuestion v c (length out)
 
-  -- the state after a refused call
-  kept-state : (n : ℕ) (w : Voice) → (n ≡ 0 → ⊥) → v .state ≡ accepted n w v .state
-  kept-state zero w h = absurd (h refl)
-  kept-state (suc n) w h = refl
+  -- the voice after a refused call
+  kept-voice : (n : ℕ) (w : Voice) → (n ≡ 0 → ⊥) → _≡_ {A = Played} (record { number = n; voice = v }) (record { number = n; voice = accepted n w v })
+  kept-voice zero w h = absurd (h refl)
+  kept-voice (suc n) w h = refl
 
   -- LAW: a refused play of a voice in parts
   pub parts-refused : (n : ℕ) → n ≡ q → (n ≡ 0 → ⊥)
@@ -31,7 +31,7 @@ module _ (v : Voice) (c : Call) (out : List Float) where
   unfolding played playedOut
   parts-refused n e h = record {
     answered = e;
-    moves = rw (sym e) (kept-state n (withState v (blockEnd v c)) h);
+    moves = rw (sym e) (ap (λ (p : Played). p .voice .state) (kept-voice n (withState v (blockEnd v c)) h));
     written = rw (sym e) (refused-out n out _ h);
   }
 
@@ -41,19 +41,19 @@ module _ (v : Voice) (c : Call) (out : List Float) where
   parts-played r ps ms ys z B = record { answered = rw z; moves = rw z (B .ends); written = rw z (B .written) }
 
   -- LAW: a voice by value, from its parts: refused, it is the one given
-  pub voice-refused : (m : Moved) (ps ms ys : List Float) (a : PlayAnswer) → PlaysParts v c out m ps ms ys → playNumber a ≡ m .number → (m .number ≡ 0 → ⊥)
-      → Plays v c out (record { answer = a; voice = v }) ys
+  pub voice-refused : (m : Moved) (ps ms ys : List Float) → PlaysParts v c out m ps ms ys → (m .number ≡ 0 → ⊥)
+      → Plays v c out (record { number = m .number; voice = v }) ys
   unfolding played
-  voice-refused m ps ms ys a P e h = record {
-    answered = rw (e, P .answered) (refused q v (withState v (blockEnd v c)) (λ z. h (P .answered ∙ z)));
+  voice-refused m ps ms ys P h = record {
+    answered = rw (P .answered) (kept-voice q (withState v (blockEnd v c)) (λ z. h (P .answered ∙ z)));
     written = P .written;
   }
 
   -- LAW: accepted, it has the state that its parts were left in
   pub voice-played : (m : Moved) (ps ms ys : List Float) → PlaysParts v c out m ps ms ys → m .number ≡ 0
-      → Plays v c out (record { answer = PlayAnswer.Done; voice = withState v (stateOf ps ms (m .rng)) }) ys
+      → Plays v c out (record { number = m .number; voice = withState v (stateOf ps ms (m .rng)) }) ys
   unfolding played
   voice-played m ps ms ys P e =
       let z : q ≡ 0 = sym (P .answered) ∙ e in
       let s : stateOf ps ms (m .rng) ≡ blockEnd v c = P .moves ∙ ap (λ (n : ℕ). accepted n (withState v (blockEnd v c)) v .state) z in
-      record { answered = rw (z, s); written = P .written }
+      record { answered = rw (e, z, s); written = P .written }

@@ -5,7 +5,7 @@ use mathlib.Core.List.{List}
 use lib.ListN.{length}
 use lib.Ieee.{Float}
 use Rattle.voice.specs.Input.{Call}
-use Rattle.voice.specs.Question.{playQuestion, accepted, Outcome, outcomeOf}
+use Rattle.voice.specs.Question.{playQuestion, accepted}
 use Rattle.voice.specs.Voice.{withState, stateOf}
 use Rattle.player.specs.Block.{blockOut, blockEnd}
 use Rattle.player.specs.declared.playing.Moved.{Moved}
@@ -14,7 +14,7 @@ use Rattle.voice.specs.declared.voice.Voice.{Voice}
 
 -- the number of the first question answered no, or 0, and the voice: at the end of channel 0 where the play is accepted, else as given.
 -- `len` is the length of the output slice.
-unfoldable pub played : Voice → Call → ℕ → Outcome
+unfoldable pub played : Voice → Call → ℕ → Played
 played v c len =
     let q = playQuestion v c len in
     record { number = q; voice = accepted q (withState v (blockEnd v c)) v }
@@ -26,7 +26,7 @@ playedOut v c out = accepted (playQuestion v c (length out)) (blockOut v c) out
 -- what a play promises, where `out` is the output at the call and `out′` at the return:
 -- of a voice by value
 pub record Plays (v : Voice) (c : Call) (out : List Float) (p : Played) (out′ : List Float) : Type 0 where
-  pub answered : outcomeOf p ≡ played v c (length out)
+  pub answered : p ≡ played v c (length out)
   pub written : out′ ≡ playedOut v c out
 
 -- of a voice whose parts are lent: the number, and the running state after the call, of which the phases and memories lie where they lay

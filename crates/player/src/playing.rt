@@ -1,36 +1,15 @@
 // Playing, with questions 13 to 16.
-ghost use mathlib.Core.Path.{_≡_};
-ghost use Prim.Native.Nat.{_≤_};
 ghost use Rattle.voice.specs.Input.{call};
 ghost use Rattle.voice.specs.Voice.{voiceOf, stateOf};
-ghost use Rattle.voice.specs.Question.{playNumber};
 ghost use Rattle.player.specs.Play.{Plays, PlaysParts};
 use crate::block::block_of;
 use filters::Rng;
-use voice::PlayAnswer;
 use voice::Played;
 use voice::Setting;
 use voice::Shape;
 use voice::State;
 use voice::Voice;
 use voice::play_question;
-
-// The answer of a number of 13 to 16.
-fn answer_of(q: u32) -> PlayAnswer
-    requires { ⌜ (13 ≤ q) × (q ≤ 16) ⌝ }
-    ensures { λ r. ⌜ playNumber r ≡ q ⌝ }
-{
-    if q == 13 {
-        return PlayAnswer::BadVoice;
-    }
-    if q == 14 {
-        return PlayAnswer::BadBlock;
-    }
-    if q == 15 {
-        return PlayAnswer::BadInput;
-    }
-    PlayAnswer::BadFrequency
-}
 
 // The number of the first question that is answered no, or 0; and the noise number after the call.
 pub struct Moved {
@@ -121,17 +100,16 @@ pub fn play(
         g3,
         out,
     );
-    if m.number != 0 {
-        let answer = answer_of(m.number);
-        return Played { answer, voice };
+    let number = m.number;
+    if number != 0 {
+        return Played { number, voice };
     }
-    let end = m.rng;
+    let last = m.rng;
     let after = State {
         phases,
         memories,
-        rng: end,
+        rng: last,
     };
     voice.state = after;
-    let answer = PlayAnswer::Done;
-    Played { answer, voice }
+    Played { number, voice }
 }

@@ -24,11 +24,11 @@ use crate::tally::same_float;
 use filters::BiquadCoeffs;
 use filters::biquad_noise_power_gain;
 use sounder::Answer;
-use sounder::PlayedAnswer;
 use sounder::voices::sounder_make;
 use sounder::voices::sounder_play;
 use sounder::voices::sounder_reseed;
 use sounder::voices::sounder_reset;
+use voice::Played;
 use voice::Shape;
 use voice::Voice;
 
@@ -92,7 +92,7 @@ fn concluded(
     what: &[u8],
     before: Voice,
     given: Voice,
-    ours: PlayedAnswer,
+    ours: Played,
 ) -> Step {
     let number = word(r, at);
     let after = ours.voice;
@@ -153,7 +153,7 @@ fn shape_at(r: &[u8], at: usize, inputs: Inputs) -> Shape {
 }
 
 // The play whose arguments stand at a position: samples, frequency, four gains, channels.
-fn play_into(given: Voice, r: &[u8], at: usize, out: &mut [f32]) -> PlayedAnswer {
+fn play_into(given: Voice, r: &[u8], at: usize, out: &mut [f32]) -> Played {
     let inputs = inputs_at(r, plus(at, 4));
     let freq = floats_at(r, plus(inputs.freq, 8));
     let g0 = floats_at(r, plus(inputs.g0, 8));

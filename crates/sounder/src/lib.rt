@@ -10,4 +10,3 @@ pub use answer::Answer;
 pub use images::DeskAnswer;
 pub use images::Place;
 pub use voices::MadeAnswer;
-pub use voices::PlayedAnswer;

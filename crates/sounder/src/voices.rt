@@ -4,10 +4,10 @@ ghost use Rattle.voice.specs.Input.{call};
 ghost use Rattle.filters.specs.Compensation.{noisePowerGain};
 ghost use Rattle.making.specs.Making.{making, makeOf};
 ghost use Rattle.making.specs.MakeAnswer.{makeRefusal};
-ghost use Rattle.voice.specs.Question.{playNumber};
 ghost use Rattle.voice.specs.Restart.{resetOf, reseedOf};
 ghost use Rattle.sounder.specs.Answer.{refusalAnswer, kindOf};
-ghost use Rattle.sounder.specs.Player.{madeAnswer, playedAnswer, PlaysAnswer};
+ghost use Rattle.sounder.specs.Player.{madeAnswer};
+ghost use Rattle.player.specs.Play.{Plays};
 use crate::answer::Answer;
 use crate::answer::refused;
 use crate::kind::kind_of;
@@ -17,7 +17,7 @@ use making::MakeAnswer;
 use making::make;
 use player::play;
 use voice::BiquadCoeffs;
-use voice::PlayAnswer;
+use voice::Played;
 use voice::Shape;
 use voice::Voice;
 use voice::reseed;
@@ -27,13 +27,6 @@ use voice::reset;
 #[repr(C)]
 pub struct MadeAnswer {
     pub answer: Answer,
-    pub voice: Voice,
-}
-
-// 0, or the number of the question that was answered no; then the voice is as given.
-#[repr(C)]
-pub struct PlayedAnswer {
-    pub number: u32,
     pub voice: Voice,
 }
 
@@ -75,18 +68,6 @@ fn make_answer(a: MakeAnswer) -> Answer
     }
 }
 
-fn play_number(a: PlayAnswer) -> u32
-    ensures { λ r. ⌜ r ≡ playNumber a ⌝ }
-{
-    match a {
-        PlayAnswer::Done => 0,
-        PlayAnswer::BadVoice => 13,
-        PlayAnswer::BadBlock => 14,
-        PlayAnswer::BadInput => 15,
-        PlayAnswer::BadFrequency => 16,
-    }
-}
-
 // Makes a voice of an image: kind 0 is a single voice of the channel, any other kind a blend.
 #[no_mangle]
 pub extern "C" fn sounder_make(
@@ -118,46 +99,27 @@ pub extern "C" fn sounder_play(
     g2: &[f32],
     g3: &[f32],
     out: &mut [f32],
-) -> PlayedAnswer
-    ensures { λ r. ⌜ PlaysAnswer voice (call shape (now (freq .entry)) (now (g0 .entry)) (now (g1 .entry)) (now (g2 .entry))
-        (now (g3 .entry)))
+) -> Played
+    ensures { λ r. ⌜ Plays voice (call shape (now (freq .entry)) (now (g0 .entry)) (now (g1 .entry)) (now (g2 .entry)) (now (g3 .entry)))
         (now (out .entry)) r (now (out .exit)) ⌝ }
 {
-    let p = play(voice, shape, freq, g0, g1, g2, g3, out);
-    let a = p.answer;
-    let after = p.voice;
-    PlayedAnswer {
-        number: play_number(a),
-        voice: after,
-    }
+    play(voice, shape, freq, g0, g1, g2, g3, out)
 }
 
 // Phases and memories 0, and the default seed.
 #[no_mangle]
-pub extern "C" fn sounder_reset(voice: Voice) -> PlayedAnswer
-    ensures { λ r. ⌜ r ≡ playedAnswer (resetOf voice) ⌝ }
+pub extern "C" fn sounder_reset(voice: Voice) -> Played
+    ensures { λ r. ⌜ r ≡ resetOf voice ⌝ }
 {
-    let p = reset(voice);
-    let a = p.answer;
-    let after = p.voice;
-    PlayedAnswer {
-        number: play_number(a),
-        voice: after,
-    }
+    reset(voice)
 }
 
 // The seed is taken, the memories are 0, the phases kept.
 #[no_mangle]
-pub extern "C" fn sounder_reseed(voice: Voice, seed: u32) -> PlayedAnswer
-    ensures { λ r. ⌜ r ≡ playedAnswer (reseedOf voice seed) ⌝ }
+pub extern "C" fn sounder_reseed(voice: Voice, seed: u32) -> Played
+    ensures { λ r. ⌜ r ≡ reseedOf voice seed ⌝ }
 {
-    let p = reseed(voice, seed);
-    let a = p.answer;
-    let after = p.voice;
-    PlayedAnswer {
-        number: play_number(a),
-        voice: after,
-    }
+    reseed(voice, seed)
 }
 
 // The power of white noise after a band, and how many times the band was rung for it.

@@ -8,9 +8,8 @@ use lib.Dec.{leb, eqb}
 use lib.Ieee.{Float}
 use Rattle.voice.specs.Input.{Call, inputOk, inputsOf, inputsOk, frequenciesOk}
 use Rattle.voice.specs.Voice.{countsOk, entriesOk, rateOk, liveOk, phasesOk, rulesOf, keepsRules}
-use Rattle.voice.specs.Question.{ask, playNumber, blockOk, callQuestion, playQuestion, accepted, Outcome}
+use Rattle.voice.specs.Question.{ask, blockOk, callQuestion, playQuestion, accepted}
 use Rattle.voice.specs.declared.shape.Shape.{Shape}
-use Rattle.voice.specs.declared.answer.PlayAnswer.{PlayAnswer}
 use Rattle.voice.specs.declared.voice.Voice.{Voice}
 use mathlib.Core.List.{List}
 use Rattle.voice.proofs.Loops.{both-true}
@@ -87,41 +86,9 @@ play-accepted v c len h =
     (p .0, call-accepted c len (p .1))
 
 -- a refusal leaves what was given
-pub refused : (q : ℕ) (v after : Voice) → (q ≡ 0 → ⊥) → _≡_ {A = Outcome} (record { number = q; voice = v }) (record { number = q; voice = accepted q after v })
-refused zero v after h = absurd (h refl)
-refused (suc q) v after h = refl
-
 pub refused-out : (q : ℕ) (old new : List Float) → (q ≡ 0 → ⊥) → old ≡ accepted q new old
 refused-out zero old new h = absurd (h refl)
 refused-out (suc q) old new h = refl
-
--- LAW: the numbers tell the answers apart
-pub number-apart : (a b : PlayAnswer) → playNumber a ≡ playNumber b → a ≡ b
-number-apart PlayAnswer.Done PlayAnswer.Done h = refl
-number-apart PlayAnswer.Done PlayAnswer.BadVoice h = absurd (omega arith)
-number-apart PlayAnswer.Done PlayAnswer.BadBlock h = absurd (omega arith)
-number-apart PlayAnswer.Done PlayAnswer.BadInput h = absurd (omega arith)
-number-apart PlayAnswer.Done PlayAnswer.BadFrequency h = absurd (omega arith)
-number-apart PlayAnswer.BadVoice PlayAnswer.Done h = absurd (omega arith)
-number-apart PlayAnswer.BadVoice PlayAnswer.BadVoice h = refl
-number-apart PlayAnswer.BadVoice PlayAnswer.BadBlock h = absurd (omega arith)
-number-apart PlayAnswer.BadVoice PlayAnswer.BadInput h = absurd (omega arith)
-number-apart PlayAnswer.BadVoice PlayAnswer.BadFrequency h = absurd (omega arith)
-number-apart PlayAnswer.BadBlock PlayAnswer.Done h = absurd (omega arith)
-number-apart PlayAnswer.BadBlock PlayAnswer.BadVoice h = absurd (omega arith)
-number-apart PlayAnswer.BadBlock PlayAnswer.BadBlock h = refl
-number-apart PlayAnswer.BadBlock PlayAnswer.BadInput h = absurd (omega arith)
-number-apart PlayAnswer.BadBlock PlayAnswer.BadFrequency h = absurd (omega arith)
-number-apart PlayAnswer.BadInput PlayAnswer.Done h = absurd (omega arith)
-number-apart PlayAnswer.BadInput PlayAnswer.BadVoice h = absurd (omega arith)
-number-apart PlayAnswer.BadInput PlayAnswer.BadBlock h = absurd (omega arith)
-number-apart PlayAnswer.BadInput PlayAnswer.BadInput h = refl
-number-apart PlayAnswer.BadInput PlayAnswer.BadFrequency h = absurd (omega arith)
-number-apart PlayAnswer.BadFrequency PlayAnswer.Done h = absurd (omega arith)
-number-apart PlayAnswer.BadFrequency PlayAnswer.BadVoice h = absurd (omega arith)
-number-apart PlayAnswer.BadFrequency PlayAnswer.BadBlock h = absurd (omega arith)
-number-apart PlayAnswer.BadFrequency PlayAnswer.BadInput h = absurd (omega arith)
-number-apart PlayAnswer.BadFrequency PlayAnswer.BadFrequency h = refl
 
 -- LAW: what a voice that keeps the rules has
 pub record Kept (v : Voice) : Type 0 where

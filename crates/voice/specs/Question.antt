@@ -5,22 +5,12 @@ use lib.Dec.{leb, eqb}
 use Rattle.voice.specs.Input.{Call, inputsOk, frequenciesOk}
 use Rattle.voice.specs.Limits.{maxSamples, maxChannels}
 use Rattle.voice.specs.Voice.{keepsRules}
-use Rattle.voice.specs.declared.answer.PlayAnswer.{PlayAnswer}
-use Rattle.voice.specs.declared.answer.Played.{Played}
 use Rattle.voice.specs.declared.voice.Voice.{Voice}
 
 -- is it so? No: the question's number; yes: what follows. 0 is "all answered yes".
 unfoldable pub ask : Bool → ℕ → ℕ → ℕ
 ask true n rest = rest
 ask false n rest = n
-
--- the numbers of the code's answers
-abbrev pub playNumber : PlayAnswer → ℕ
-playNumber PlayAnswer.Done = 0
-playNumber PlayAnswer.BadVoice = 13
-playNumber PlayAnswer.BadBlock = 14
-playNumber PlayAnswer.BadInput = 15
-playNumber PlayAnswer.BadFrequency = 16
 
 -- question 14: is the output a block of at most 128 samples by 1 to 8 channels, its slice exactly samples × channels long?
 abbrev pub blockOk : ℕ → ℕ → ℕ → Bool
@@ -41,11 +31,3 @@ playQuestion v c len = ask (keepsRules v) 13 (callQuestion c len)
 abbrev pub accepted : {A : Type 0} → ℕ → A → A → A
 accepted zero after given = after
 accepted (suc q) after given = given
-
--- the answer's number, and the voice that is returned
-pub record Outcome : Type 0 where
-  pub number : ℕ
-  pub voice : Voice
-
-abbrev pub outcomeOf : Played → Outcome
-outcomeOf p = record { number = playNumber (p .answer); voice = p .voice }

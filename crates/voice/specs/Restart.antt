@@ -1,13 +1,14 @@
 -- Reset and reseed, with question 13. A refusal returns the voice as given.
 use Prim.Native.Nat.{ℕ}
 use Rattle.filters.specs.Rng.{newRng}
-use Rattle.voice.specs.Question.{ask, accepted, Outcome}
+use Rattle.voice.specs.Question.{ask, accepted}
 use Rattle.voice.specs.Voice.{keepsRules, withState, stateOf, firstState, noMemories}
+use Rattle.voice.specs.declared.answer.Played.{Played}
 use Rattle.voice.specs.declared.voice.State.{State}
 use Rattle.voice.specs.declared.voice.Voice.{Voice}
 
 -- reset: phases and memories 0, the default seed, whatever was reseeded
-unfoldable pub resetOf : Voice → Outcome
+unfoldable pub resetOf : Voice → Played
 resetOf v =
     let q = ask (keepsRules v) 13 0 in
     record { number = q; voice = accepted q (withState v firstState) v }
@@ -16,7 +17,7 @@ resetOf v =
 abbrev pub reseededState : State → ℕ → State
 reseededState s seed = stateOf (s .phases) noMemories (newRng seed)
 
-unfoldable pub reseedOf : Voice → ℕ → Outcome
+unfoldable pub reseedOf : Voice → ℕ → Played
 reseedOf v seed =
     let q = ask (keepsRules v) 13 0 in
     record { number = q; voice = accepted q (withState v (reseededState (v .state) seed)) v }

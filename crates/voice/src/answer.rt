@@ -1,16 +1,10 @@
-// What a call on a voice answers: its outcome and the voice.
+// What a call on a voice answers.
 use crate::voice::Voice;
 
-// Done, or the question that was answered no.
-pub enum PlayAnswer {
-    Done, // 0
-    BadVoice, // 13: the voice breaks the voice rules
-    BadBlock, // 14: the output is no block
-    BadInput, // 15: an input does not fit the block
-    BadFrequency, // 16: a finite frequency is above 20,000
-}
-
+// 0, or the number of the question that was answered no (13: the voice breaks the voice rules; 14: the output is no block; 15: an input
+// does not fit the block; 16: a finite frequency is above 20,000); and the voice, which is then as given. It crosses to C as it is.
+#[repr(C)]
 pub struct Played {
-    pub answer: PlayAnswer,
+    pub number: u32,
     pub voice: Voice,
 }

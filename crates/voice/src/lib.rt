@@ -8,7 +8,6 @@ mod rules;
 mod shape;
 mod voice;
 
-pub use answer::PlayAnswer;
 pub use answer::Played;
 pub use filters::BiquadCoeffs;
 pub use filters::Rng;

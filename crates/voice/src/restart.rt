@@ -1,9 +1,7 @@
 // Reset and reseed, with question 13.
 ghost use mathlib.Core.Path.{_≡_};
-ghost use Rattle.voice.specs.Question.{outcomeOf};
 ghost use Rattle.voice.specs.Restart.{resetOf, reseedOf};
 ghost use Rattle.voice.specs.Voice.{firstState};
-use crate::answer::PlayAnswer;
 use crate::answer::Played;
 use crate::rules::keeps_rules;
 use crate::voice::State;
@@ -23,31 +21,22 @@ pub fn first_state() -> State
 
 // The state that a fresh voice has.
 pub fn reset(mut voice: Voice) -> Played
-    ensures { λ r. ⌜ outcomeOf r ≡ resetOf voice ⌝ }
+    ensures { λ r. ⌜ r ≡ resetOf voice ⌝ }
 {
     if !keeps_rules(voice) {
-        return Played {
-            answer: PlayAnswer::BadVoice,
-            voice,
-        };
+        return Played { number: 13, voice };
     }
     let state = first_state();
     voice.state = state;
-    Played {
-        answer: PlayAnswer::Done,
-        voice,
-    }
+    Played { number: 0, voice }
 }
 
 // The noise starts anew from the seed. The phases go on.
 pub fn reseed(mut voice: Voice, seed: u32) -> Played
-    ensures { λ r. ⌜ outcomeOf r ≡ reseedOf voice seed ⌝ }
+    ensures { λ r. ⌜ r ≡ reseedOf voice seed ⌝ }
 {
     if !keeps_rules(voice) {
-        return Played {
-            answer: PlayAnswer::BadVoice,
-            voice,
-        };
+        return Played { number: 13, voice };
     }
     let old = voice.state;
     let phases = old.phases;
@@ -57,8 +46,5 @@ pub fn reseed(mut voice: Voice, seed: u32) -> Played
         rng: Rng::new(seed),
     };
     voice.state = state;
-    Played {
-        answer: PlayAnswer::Done,
-        voice,
-    }
+    Played { number: 0, voice }
 }

@@ -1,9 +1,6 @@
-use lib.ListN.{length}
-use Rattle.voice.specs.Input.{Call, call}
-use Rattle.player.specs.Play.{played}
-use Rattle.voice.proofs.QuestionLaws.{play-number}
-use Rattle.player.proofs.PlayLaws.{voice-refused, voice-played}
 -- `play` meets its contract.
+use Rattle.voice.specs.Input.{Call, call}
+use Rattle.player.proofs.PlayLaws.{voice-refused, voice-played}
 use borrow.Author.Needs.{needs}
 use Rattle.player.proofs.playing.play.Statement.{statement}
 use Rattle.player.proofs.playing.play.Tie as tie
@@ -14,22 +11,14 @@ called c = call (c .args .b) (c .args .freq .now) (c .args .g0 .now) (c .args .g
 play-parts-requires : tie.Need-play-parts-requires
 play-parts-requires c κs = search needs
 
-answer-of-requires : tie.Need-answer-of-requires
-unfolding played
-answer-of-requires c κs =
-    let b4 = c .before .before .before .before in
-    let s = b4 .before .before .before .before .before .before .before .before .before .before .before .before .before .before .before .before .before .before .before in
-    play-number (s .args .t1) (called s) (length (s .args .out .now)) (b4 .play-parts .result .number) (b4 .play-parts .ensures .answered) (c .if1 .taken)
-
 same-length : tie.Need-same-length
 same-length c = search needs
 
 returns : tie.Need-returns
 returns c =
-    let b1 = c .before in
-    let b5 = b1 .before .before .before .before in
-    let s = b5 .before .before .before .before .before .before .before .before .before .before .before .before .before .before .before .before .before .before .before in
-    voice-refused (s .args .t1) (called s) (s .args .out .now) (b5 .play-parts .result) _ _ _ (c .answer-of .result) (b5 .play-parts .ensures) (c .answer-of .ensures) (b1 .if1 .taken)
+    let b3 = c .before .before .before in
+    let s = b3 .before .before .before .before .before .before .before .before .before .before .before .before .before .before .before .before .before .before .before in
+    voice-refused (s .args .t1) (called s) (s .args .out .now) (b3 .play-parts .result) _ _ _ (b3 .play-parts .ensures) (c .if1 .taken)
 
 same-length-2 : tie.Need-same-length-2
 same-length-2 c = search needs
@@ -37,11 +26,9 @@ same-length-2 c = search needs
 returns-2 : tie.Need-returns-2
 returns-2 c =
     let b1 = c .before in
-    let b5 = b1 .before .before .before .before in
-    let s = b5 .before .before .before .before .before .before .before .before .before .before .before .before .before .before .before .before .before .before .before in
-    voice-played (s .args .t1) (called s) (s .args .out .now) (b5 .play-parts .result) _ _ _ (b5 .play-parts .ensures) (b1 .if1 .left)
+    let b4 = b1 .before .before .before in
+    let s = b4 .before .before .before .before .before .before .before .before .before .before .before .before .before .before .before .before .before .before .before in
+    voice-played (s .args .t1) (called s) (s .args .out .now) (b4 .play-parts .result) _ _ _ (b4 .play-parts .ensures) (b1 .if1 .left)
 
 pub play-spec : {M : Type 1} → statement M
-play-spec =
-    tie.close
-    (tie.spec play-parts-requires answer-of-requires same-length returns same-length-2 returns-2)
+play-spec = tie.close (tie.spec play-parts-requires same-length returns same-length-2 returns-2)
