@@ -262,6 +262,8 @@ def main():
         has = f'{counted(v.m, "partial")} and {counted(v.j, "noise band")}'
         print(f'table "{b[10:10 + n].decode()}": {counted(len(table(b)), "entry")}; the voice has {has}')
         print(f'pitch {freq:.6f}' + (f' to {o.to:.6f}' if o.to is not None else '') + ' Hz' + (' (no --freq was given)' if o.freq is None else ''))
+        if v.k < len(o.gain):
+            print(f'the voice has {counted(v.k, "channel")}: the gains beyond are not heard')
         blocks = -(-total // 128)
         for d in range(1, blocks + 1):
             if (d - 1) * 10 // blocks < d * 10 // blocks:

@@ -1,7 +1,8 @@
 // Plays a coefficient table to a WAV file: a table, a voice of it, blocks of 128 samples, and a file of 32-bit floats.
 //
 // The file is written under its name with .part at its end, and gets its name once every byte has reached the disk; where anything
-// fails, the .part is removed. So a file of the name asked for is whole. A name that is there already is left alone.
+// fails, the .part is removed. So a file of the name asked for is whole, or empty where the program was ended in the moment between the
+// taking of the name and the renaming (output.rt). A name that is there already is left alone.
 // A Rattle program has no exit status: everything that goes wrong is said on standard error, and nothing else is, so the shell
 // script tools/tone turns words there into status 1, and into 2 where the last of them are those of wrong use.
 mod crc;
@@ -93,6 +94,15 @@ fn describe_pitch(o: Options) {
     }
 }
 
+// Says where a blend has fewer channels than gains were given.
+fn describe_gains(o: Options, channels: usize) {
+    if channels < o.gains {
+        say::text(1, b"the voice has ");
+        say::counted(1, channels as u64, b" channel", b" channels");
+        say::text(1, b": the gains beyond are not heard\n");
+    }
+}
+
 // Whether a pitch that was asked for can be played; if not, refusal 16 is said before anything is written.
 fn pitch_ok(x: f32, option: &[u8]) -> bool {
     if 20000.0 < x {
@@ -156,6 +166,7 @@ fn play_image(o: Options, image: &[u8], centres: &[f32]) {
     let set = voice.set;
     describe(image, read.first, set.m, set.j);
     describe_pitch(o);
+    describe_gains(o, set.k);
     play_voice(o, voice);
 }
 
