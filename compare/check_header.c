@@ -1,30 +1,73 @@
 /* include/sounder.h against the library: sizes and offsets, a read, a refusal, a rewriting, and voices of both kinds: what a making puts
- * into each field, and blocks played both ways beside stored samples. */
-#include "../include/sounder.h"
+ * into each field, and blocks played both ways beside stored samples. compare/try_headers compiles it, also against wrong headers; there
+ * without the sizes and offsets (VALUES_ALONE), so that the values alone have to tell. */
+#include "sounder.h"
 #include <stdio.h>
 #include <string.h>
 
-_Static_assert(sizeof(struct sounder_answer) == 24, "answer");
-_Static_assert(offsetof(struct sounder_answer, first) == 8, "answer");
-_Static_assert(sizeof(struct sounder_place) == 16, "place");
-_Static_assert(sizeof(struct sounder_desk_answer) == 40, "desk answer");
-_Static_assert(offsetof(struct sounder_desk_answer, bands) == 24, "desk answer");
-
-_Static_assert(sizeof(struct sounder_voice) == 13264, "voice");
-_Static_assert(offsetof(struct sounder_voice, sample_rate) == 48, "voice");
-_Static_assert(offsetof(struct sounder_voice, live) == 52, "voice");
-_Static_assert(offsetof(struct sounder_voice, f0_hz) == 72, "voice");
-_Static_assert(offsetof(struct sounder_voice, bands) == 72 + 64 * 4, "voice");
-_Static_assert(offsetof(struct sounder_voice, compensation) == 72 + 144 * 4, "voice");
-_Static_assert(offsetof(struct sounder_voice, partials) == 712, "voice");
-_Static_assert(offsetof(struct sounder_voice, noise) == 8904, "voice");
-_Static_assert(offsetof(struct sounder_voice, state) == 13000, "voice");
-_Static_assert(sizeof(struct sounder_state) == 260, "state");
-_Static_assert(sizeof(struct sounder_shape) == 56, "shape");
-_Static_assert(sizeof(struct sounder_made_answer) == 24 + 13264, "made answer");
-_Static_assert(offsetof(struct sounder_played_answer, voice) == 8, "played answer");
-_Static_assert(sizeof(struct sounder_played_answer) == 8 + 13264, "played answer");
-_Static_assert(sizeof(struct sounder_noise_power) == 8, "noise power");
+#ifndef VALUES_ALONE
+#define AT(type, field, at) _Static_assert(offsetof(struct type, field) == (at), #type ", " #field)
+#define SIZE(type, size) _Static_assert(sizeof(struct type) == (size), #type)
+SIZE(sounder_answer, 24);
+AT(sounder_answer, number, 0);
+AT(sounder_answer, first, 8);
+AT(sounder_answer, second, 16);
+SIZE(sounder_place, 16);
+AT(sounder_place, start, 0);
+AT(sounder_place, len, 8);
+SIZE(sounder_desk_answer, 40);
+AT(sounder_desk_answer, answer, 0);
+AT(sounder_desk_answer, bands, 24);
+AT(sounder_desk_answer, min_hz, 28);
+AT(sounder_desk_answer, max_hz, 32);
+SIZE(sounder_biquad_coeffs, 20);
+AT(sounder_biquad_coeffs, b0, 0);
+AT(sounder_biquad_coeffs, b1, 4);
+AT(sounder_biquad_coeffs, b2, 8);
+AT(sounder_biquad_coeffs, a1, 12);
+AT(sounder_biquad_coeffs, a2, 16);
+SIZE(sounder_biquad_state, 8);
+AT(sounder_biquad_state, z1, 0);
+AT(sounder_biquad_state, z2, 4);
+SIZE(sounder_state, 260);
+AT(sounder_state, phases, 0);
+AT(sounder_state, memories, 128);
+AT(sounder_state, noise, 256);
+SIZE(sounder_voice, 13264);
+AT(sounder_voice, blend, 0);
+AT(sounder_voice, channel, 4);
+AT(sounder_voice, count, 8);
+AT(sounder_voice, k, 16);
+AT(sounder_voice, m, 24);
+AT(sounder_voice, j, 32);
+AT(sounder_voice, live_count, 40);
+AT(sounder_voice, sample_rate, 48);
+AT(sounder_voice, live, 52);
+AT(sounder_voice, f0_hz, 72);
+AT(sounder_voice, stretch, 72 + 16 * 4);
+AT(sounder_voice, mainlobe_gain, 72 + 32 * 4);
+AT(sounder_voice, noise_gain, 72 + 48 * 4);
+AT(sounder_voice, bands, 72 + 64 * 4);
+AT(sounder_voice, compensation, 72 + 144 * 4);
+AT(sounder_voice, partials, 712);
+AT(sounder_voice, noise, 8904);
+AT(sounder_voice, state, 13000);
+SIZE(sounder_shape, 56);
+AT(sounder_shape, samples, 0);
+AT(sounder_shape, channels, 8);
+AT(sounder_shape, freq, 16);
+AT(sounder_shape, g0, 24);
+AT(sounder_shape, g1, 32);
+AT(sounder_shape, g2, 40);
+AT(sounder_shape, g3, 48);
+SIZE(sounder_made_answer, 24 + 13264);
+AT(sounder_made_answer, voice, 24);
+SIZE(sounder_played_answer, 8 + 13264);
+AT(sounder_played_answer, voice, 8);
+SIZE(sounder_noise_power, 8);
+AT(sounder_noise_power, power, 0);
+AT(sounder_noise_power, n, 4);
+#endif
 
 static int failures;
 
@@ -46,7 +89,7 @@ static const uint8_t image[] = {'M', 'S', 'C', 'T', 0, 0, 2, 0, 0, 0, 'a', 'b', 
                                 3, 0, 0, 0, 0, 0, 0, 0, 0, 0, 0, 0, 0, 0, 0, 0, 1, 0, 0, 0, 1, 0, 0, 0, 'x', 0, 0, 0x80, 0x3F, 0xEE};
 
 /* ---- a table of two entries with four channels, three partials and two bands, and other numbers in every place */
-static uint8_t table[1024];
+static uint8_t table[2048];
 static size_t table_len;
 
 static void put(uint32_t word, size_t bytes)
@@ -77,12 +120,20 @@ static float coefficient(size_t entry, size_t channel, size_t column)
     return (float)(1 + entry * 20 + channel * 5 + column) / 64;
 }
 
-static void make_table(void)
+/* the head of a table of the name "ab" */
+static void put_head(uint32_t entries)
 {
-    static const char head[] = "MSCT\1\0\2\0\0\0ab\2\0\0";
+    static const char head[] = {'M', 'S', 'C', 'T', 1, 0, 2, 0, 0, 0, 'a', 'b'};
+    table_len = 0;
     for (size_t i = 0; i < sizeof head; i++) {
         put((uint8_t)head[i], 1);
     }
+    put(entries, 4);
+}
+
+static void make_table(void)
+{
+    put_head(2);
     for (size_t e = 0; e < 2; e++) {
         put(bits(220 * (float)(e + 1)), 4);
         put(bits(1 + (float)e / 4), 4);
@@ -102,9 +153,35 @@ static void make_table(void)
     }
 }
 
+/* five entries with eight channels, six partials and three bands, of which the second is silent: no two counts of its blend are equal */
+static void make_wide_table(void)
+{
+    put_head(5);
+    for (size_t e = 0; e < 5; e++) {
+        put(bits(220 * (float)(e + 1)), 4);
+        put(bits(1), 4);
+        put(6, 4);
+        for (size_t i = 1; i <= 6; i++) {
+            put(bits(220 * (float)i), 4);
+        }
+        put(8, 4);
+        put(3, 4);
+        put(72, 4);
+        for (size_t i = 0; i < 72; i++) {
+            put(i % 9 == 7 ? 0 : bits(0.125f), 4);
+        }
+        put(0, 4);
+    }
+}
+
 static int same_floats(const float *a, const float *b, size_t n)
 {
     return memcmp(a, b, n * sizeof *a) == 0;
+}
+
+static int near(float a, float b)
+{
+    return a - b < 0.000001f && b - a < 0.000001f;
 }
 
 /* field by field: what C leaves between them says nothing */
@@ -137,9 +214,30 @@ static void check_voice(const struct sounder_voice *v, uint32_t blend, uint32_t 
     for (size_t b = 0; b < 2; b++) {
         struct sounder_noise_power power = sounder_noise_power_gain(b ? 3000 : 500, 1, 48000, v->bands[b]);
         float square = v->compensation[b] * v->compensation[b] * power.power;
-        expect(power.n == (b ? 127 : 763) && square > 0.999999f && square < 1.000001f, "bands and compensations");
+        expect(power.n == (b ? 127 : 763) && near(square, 1), "bands and compensations");
+        struct sounder_biquad_coeffs c = v->bands[b];
+        expect(c.b0 > 0 && c.b1 == 0 && c.b2 == -c.b0 && c.a1 < -1 && near(c.a2, 1 - 2 * c.b0), "coefficients of a band");
     }
     expect(v->state.noise == 0x9A271E56u && v->state.phases[0] == 0 && v->state.memories[1].z2 == 0, "the state at first");
+}
+
+/* voices with another number in each place, and a block with another number of channels in each input */
+static void check_numbers(void)
+{
+    const float centres[] = {500, 1000, 3000};
+    static const float ones[48] = {1};
+    static float out[16];
+    make_wide_table();
+    struct sounder_made_answer single = sounder_make(0, 6, table, table_len, 44100, centres, 3);
+    struct sounder_made_answer blend = sounder_make(1, 0, table, table_len, 44100, centres, 3);
+    struct sounder_voice *v = &blend.voice;
+    expect(is(single.answer, 0, 0, 0) && single.voice.blend == 0 && single.voice.channel == 6 && single.voice.k == 1, "a single voice of channel 6");
+    expect(is(blend.answer, 0, 0, 0) && v->blend == 1 && v->channel == 0 && v->count == 5 && v->k == 4 && v->m == 6, "counts");
+    expect(v->j == 3 && v->live_count == 2 && v->live[0] == 0 && v->live[1] == 2 && v->sample_rate == 44100, "counts of bands");
+    struct sounder_shape wide = {.samples = 8, .channels = 2, .freq = 1, .g0 = 3, .g1 = 4, .g2 = 5, .g3 = 6};
+    expect(sounder_play_in(v, wide, ones, 8, ones, 24, ones, 32, ones, 40, ones, 48, out, 16) == 0, "another number of channels in each input");
+    expect(sounder_play(*v, wide, ones, 8, ones, 24, ones, 32, ones, 40, ones, 48, out, 16).number == 0, "the same by value");
+    expect(sounder_reseed(*v, 5).voice.state.noise == 6, "a seed");
 }
 
 /* two channels of eight samples: the frequency has two channels, gain 1 two, gain 0 and 2 one each, and gain 3 one or none */
@@ -148,7 +246,7 @@ static const float g0[8] = {1, 0.9f, 0.8f, 0.7f, 0.6f, 0.5f, 0.4f, 0.3f};
 static const float g1[16] = {0.5f, 0.5f, 0.5f, 0.5f, 0.5f, 0.5f, 0.5f, 0.5f, -0.5f, -0.5f, -0.5f, -0.5f, -0.5f, -0.5f, -0.5f, -0.5f};
 static const float g2[8] = {0.25f, 0.25f, 0.25f, 0.25f, 0.25f, 0.25f, 0.25f, 0.25f};
 static const float g3[8] = {0.125f, 0.25f, 0.375f, 0.5f, 0.625f, 0.75f, 0.875f, 1};
-static const struct sounder_shape shape = {8, 2, 2, 1, 2, 1, 1};
+static const struct sounder_shape shape = {.samples = 8, .channels = 2, .freq = 2, .g0 = 1, .g1 = 2, .g2 = 1, .g3 = 1};
 
 /* the samples that the library gave when it had been compared with the original bit for bit */
 static const uint32_t samples[2][16] = {
@@ -157,6 +255,17 @@ static const uint32_t samples[2][16] = {
     {0xbd6e6f66, 0x3a7386c0, 0x3d449021, 0xbe347d3c, 0xbe6e3c33, 0xbe25b0fd, 0xbdd06f1e, 0x3eb00142,
      0xbe054b72, 0xbc502ec4, 0x3d8248d1, 0xbe96eda8, 0xbebbcae0, 0xbe840fd3, 0xbe379a17, 0x3ed53274},
 };
+
+/* after the block, in the same way: the second phase, and the second band's memories, which are those of both voices */
+static const uint32_t moved[3] = {0x3db56931, 0x3f04fe63, 0xbea0417a};
+
+static void expect_bits(float x, uint32_t stored, const char *what, size_t i)
+{
+    if (bits(x) != stored) {
+        printf("check_header: %s %zu is %08x\n", what, i, (unsigned)bits(x));
+        failures++;
+    }
+}
 
 /* a block by value and of the voice where it lies: they are one, and the stored samples are played */
 static void check_block(const struct sounder_voice *fresh, const uint32_t *stored)
@@ -167,13 +276,13 @@ static void check_block(const struct sounder_voice *fresh, const uint32_t *store
     uint32_t number = sounder_play_in(&own, shape, freq, 16, g0, 8, g1, 16, g2, 8, g3, 8, heard, 16);
     expect(played.number == 0 && number == 0, "a block");
     expect(memcmp(heard, out, sizeof out) == 0 && same_voice(&own, &played.voice), "it is the same both ways");
-    expect(!same_voice(&own, fresh) && own.state.phases[2] > 0 && own.state.memories[1].z1 != 0, "a block moves the voice");
+    expect(!same_voice(&own, fresh) && own.state.noise != fresh->state.noise && own.state.phases[3] == 0, "a block moves the voice");
     for (size_t i = 0; i < 16; i++) {
-        if (bits(heard[i]) != stored[i]) {
-            printf("check_header: sample %zu is %08x\n", i, (unsigned)bits(heard[i]));
-            failures++;
-        }
+        expect_bits(heard[i], stored[i], "sample", i);
     }
+    expect_bits(own.state.phases[1], moved[0], "phase", 1);
+    expect_bits(own.state.memories[1].z1, moved[1], "z1 of band", 1);
+    expect_bits(own.state.memories[1].z2, moved[2], "z2 of band", 1);
     float high[16];
     memcpy(high, freq, sizeof high);
     high[15] = 20001;
@@ -237,6 +346,7 @@ int main(void)
     whole[end] = 0x55;
     expect(memcmp(target, whole, n) == 0, "the rewritten image");
     check_voices();
+    check_numbers();
     if (failures) {
         return 1;
     }

@@ -1,7 +1,9 @@
 #!/usr/bin/env python3
-"""Checks what docs/PROOFS.md, docs/ARCHITECTURE.md and README.md cite. Run it at the repository's root.
+"""Checks what docs/PROOFS.md, docs/ARCHITECTURE.md and README.md cite, and what the callable functions promise.
 
     tools/check_proofs.py [FILE ..]     (the three where none is named)
+    tools/check_proofs.py --list        prints the callable functions, each with its file
+    tools/check_proofs.py --try         shows that it finds each fault of a small crate with one of every kind (tools/callable_trial)
 
 A citation is one or more names in backticks before a path in brackets: `decode`, `nameOf` (table/specs/Decode.antt). Paths are from
 the root or from crates/.
@@ -11,11 +13,16 @@ the root or from crates/.
 - Before a folder must-fail or must-fail-more the names are its edits: NAME.edit must be there, and what it replaces must
   stand in the file that it damages.
 - Each must-fail edit of the crates must be cited.
+Each function of a library crate that another crate or C can call (tools/callable.py finds them) must have no `requires`, say something
+of its answer and of each `&mut` that it is lent, and have a row in docs/PROOFS.md under "Every callable function".
 It prints how many names were checked, or a list of what is wrong, with status 1.
 """
 import re
 import sys
 from pathlib import Path
+
+sys.path.insert(0, str(Path(__file__).resolve().parent))
+import callable as functions
 
 ROOT = Path(__file__).resolve().parent.parent
 CITATION = re.compile(r'((?:`[^`\n]+`(?:, | and )?)+) \(([\w./-]+)\)')
@@ -118,16 +125,37 @@ class Check:
                 self.wrong.append(f'{edit.relative_to(ROOT)} is not cited')
 
 
+def try_itself():
+    """Checks the crate of the trial, whose file `expected` has what must be found, line by line."""
+    trial = ROOT / 'tools/callable_trial'
+    count, found = functions.faults(trial / 'crates', (trial / 'PROOFS.md').read_text())
+    wanted = (trial / 'expected').read_text().splitlines()
+    words = [f'not found: {line}' for line in wanted if line not in found] + [f'found, but no fault: {line}' for line in found if line not in wanted]
+    print('\n'.join([*words, f'trial: {count} callable functions, {len(found)} faults found, {len(words)} differences']))
+    sys.exit(1 if words else 0)
+
+
 def main():
+    if sys.argv[1:] == ['--list']:
+        for f in functions.callable_functions(ROOT / 'crates'):
+            print(f'{f.file.relative_to(ROOT / "crates")}: {f.owner + "::" if f.owner else ""}{f.name}')
+        return
+    if sys.argv[1:] == ['--try']:
+        try_itself()
+    if any(a.startswith('-') for a in sys.argv[1:]):
+        print(__doc__)
+        sys.exit(0 if sys.argv[1:] == ['--help'] else 2)
     docs = [Path(a).resolve() for a in sys.argv[1:]] or [ROOT / 'docs/PROOFS.md', ROOT / 'docs/ARCHITECTURE.md', ROOT / 'README.md']
     check = Check()
     for doc in docs:
         check.document(doc)
     check.left_out()
+    count, faults = functions.faults(ROOT / 'crates', (ROOT / 'docs/PROOFS.md').read_text())
+    check.wrong += faults
     for line in check.wrong:
         print(line)
     cited = f'{check.names} names and {len(check.edits)} must-fail edits in {len(check.paths)} files and folders'
-    print(f'{cited} checked, {len(check.wrong)} wrong')
+    print(f'{cited} and {count} callable functions checked, {len(check.wrong)} wrong')
     sys.exit(1 if check.wrong else 0)
 
 

@@ -1,13 +1,22 @@
 #!/usr/bin/env python3
 """Writes the questions and answers of crates/float_check: src/cases.rt and stdout.
 
-Run it at the project's root. It uses whole numbers only: a finite float is a number of units of 2^-149,
+    tools/float_answers.py            writes the files
+    tools/float_answers.py --check    compares them with what it would write; status 1 where one differs
+
+It uses whole numbers only: a finite float is a number of units of 2^-149,
 a root is found by math.isqrt and rounded to the nearest float, ties to the even one, by comparing squares.
 Nothing here is taken from the crate `float`.
 """
+import io
 import math
+import sys
 from decimal import Decimal, getcontext
 from fractions import Fraction
+from pathlib import Path
+
+sys.path.insert(0, str(Path(__file__).resolve().parent))
+import made
 
 getcontext().prec = 200
 INF = 0x7F800000
@@ -181,11 +190,11 @@ def write_cases(f, text, name, cases):
     write_array(f, text, name, 'u64', ['0x%08x_%08x' % case for case in cases])
 
 
-def main():
+def files():
     sqrt, finite, both, exact = sqrt_cases(), finite_cases(), pairs(), literals()
     special = [(n, n) for n in (INF, INF | SIGN)] + [(n, NAN) for n in NANS + [INF + 1 + k * 0x12345 % 0x7FFFFF for k in range(10)]]
     assert len(both) == 200 and len(exact) == 90  # the lengths in main.rt
-    with open('crates/float_check/src/cases.rt', 'w') as f:
+    with io.StringIO() as f:
         f.write('// Made by tools/float_answers.py, which works each answer out by whole numbers.\n')
         f.write('// A case is a pattern, in the upper 32 bits, and the answer, in the lower. 7fc00000 stands for every NaN.\n')
         write_cases(f, 'Square roots.', 'SQRT', sqrt)
@@ -196,9 +205,11 @@ def main():
         write_array(f, 'The larger.', 'MAX', 'u32', ['0x%08x' % larger(a, b) for a, b in both])
         write_array(f, 'Finite patterns, and below their values to 9 digits, which name one float each.', 'FINITE', 'u32', ['0x%08x' % n for n, _ in exact])
         write_array(f, 'Their values.', 'VALUES', 'f32', [text for _, text in exact])
-    with open('crates/float_check/stdout', 'w') as f:
-        for name, cases in (('sqrt', sqrt), ('sqrt_each', sqrt), ('min', both), ('max', both), ('is_finite', finite), ('from_bits special', special), ('from_bits', exact)):
-            f.write('%s %d ok\n' % (name, len(cases)))
+        cases_text = f.getvalue()
+    runs = (('sqrt', sqrt), ('sqrt_each', sqrt), ('min', both), ('max', both), ('is_finite', finite), ('from_bits special', special), ('from_bits', exact))
+    stdout = ''.join('%s %d ok\n' % (name, len(cases)) for name, cases in runs)
+    return {'crates/float_check/src/cases.rt': cases_text.encode(), 'crates/float_check/stdout': stdout.encode()}
 
 
-main()
+if __name__ == '__main__':
+    sys.exit(made.main(__doc__, files))

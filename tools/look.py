@@ -13,7 +13,7 @@ from fractions import Fraction
 from pathlib import Path
 
 sys.path.insert(0, str(Path(__file__).resolve().parent))
-from play import Voice, table
+from play import Voice, counted, table
 
 
 def decimal(x):
@@ -53,7 +53,7 @@ def look(path):
         return
     entries = table(b)
     n = struct.unpack_from('<I', b, 6)[0]
-    say(b'accepted: "' + name(b[10:10 + n]) + f'", {len(entries)} entries, {end_of(b)} bytes used of {len(b)}\n'.encode())
+    say(b'accepted: "' + name(b[10:10 + n]) + f'", {counted(len(entries), "entry")}, {end_of(b)} bytes used of {len(b)}\n'.encode())
     for i, e in enumerate(entries):
         gain = lambda k: decimal(e[k]) if e[k + '_given'] else 'not given'
         say(f"  entry {i}: pitch {decimal(e['pitch'])}, stretch {decimal(e['stretch'])}, partials {e['m']}, channels {e['k']}, "
@@ -63,7 +63,7 @@ def look(path):
     k = max(e['k'] for e in entries)
     for single in list(range(min(k, 16))) + [None]:
         if single is None and k > 16:
-            say(f'  and {k - 16} channels more, which were not tried\n')
+            say(f'  and {counted(k - 16, "channel")} more, which {"was" if k == 17 else "were"} not tried\n')
         say('  a blend: ' if single is None else f'  a single voice of channel {single}: ')
         if len(entries) > 16:
             say('refusal 8: the table has more than 16 entries, 32 partials or 16 noise bands\n')
@@ -73,7 +73,7 @@ def look(path):
             continue
         j = max(e['j'] for e in entries)
         v = Voice(table(b), single, 48000.0, [1000.0] * j)
-        say(f'can be made, with {v.m} partials, {v.k} channels and {v.j} noise bands\n')
+        say(f'can be made, with {counted(v.m, "partial")}, {counted(v.k, "channel")} and {counted(v.j, "noise band")}\n')
 
 
 for path in sys.argv[1:]:

@@ -16,7 +16,8 @@ import struct
 import sys
 from pathlib import Path
 
-HERE = Path(__file__).resolve().parent.parent / 'examples'
+sys.path.insert(0, str(Path(__file__).resolve().parent))
+import made
 
 
 def f32(x):
@@ -127,36 +128,22 @@ def channels():
 
 
 def files():
-    run = '../crates/inspect/data/'
+    run, here = 'crates/inspect/data/', 'examples/'
     return {
         run + 'green-man.msct': green_man(),
         run + 'many.msct': many(),
         run + 'channels.msct': channels(),
         run + 'odd.msct': odd(),
         run + 'version-2.msct': b'MSCT' + struct.pack('<H', 2),
-        '../crates/tone/data/green-man.msct': green_man(),
-        '../crates/tone/data/green-man.centres': centres_file('green-man.msct', 6, 80.0, 12000.0).encode(),
-        'locating-tone.msct': locating_tone(),
-        'locating-tone.centres': centres_file('locating-tone.msct', 4, 400.0, 6000.0).encode(),
-        'green-man.msct': green_man(),
-        'green-man.centres': centres_file('green-man.msct', 6, 80.0, 12000.0).encode(),
-        'plain-beep.msct': pelican(),
+        'crates/tone/data/green-man.msct': green_man(),
+        'crates/tone/data/green-man.centres': centres_file('green-man.msct', 6, 80.0, 12000.0).encode(),
+        here + 'locating-tone.msct': locating_tone(),
+        here + 'locating-tone.centres': centres_file('locating-tone.msct', 4, 400.0, 6000.0).encode(),
+        here + 'green-man.msct': green_man(),
+        here + 'green-man.centres': centres_file('green-man.msct', 6, 80.0, 12000.0).encode(),
+        here + 'plain-beep.msct': pelican(),
     }
 
 
-def main():
-    wrong = 0
-    for name, data in files().items():
-        path = HERE / name
-        if sys.argv[1:] == ['--check']:
-            same = path.exists() and path.read_bytes() == data
-            wrong += not same
-            print(f'{name}: {"as made" if same else "DIFFERS"}, {len(data)} bytes')
-        else:
-            path.write_bytes(data)
-            print(f'{name}: {len(data)} bytes')
-    return 1 if wrong else 0
-
-
 if __name__ == '__main__':
-    sys.exit(main())
+    sys.exit(made.main(__doc__, files))

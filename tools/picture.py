@@ -1,7 +1,10 @@
 #!/usr/bin/env python3
-"""A picture of a WAV file of 32-bit floats: the waveform above, the spectrogram below, with axes. Standard library only.
+"""A picture of a WAV file of one channel of 32-bit floats, as tone writes: the waveform above, the spectrogram below, with axes.
 
     tools/picture.py IN.wav OUT.png
+
+The spectrogram goes up to 12 kHz, or to half the rate where that is less, and says so. Colours are by the loudest spot; silence is pale.
+Status 0: drawn; 1: the file cannot be read or drawn, and why is said; 2: wrong use. Standard library only.
 """
 import cmath
 import math
@@ -25,23 +28,48 @@ FONT = {
     'i': '04000C0404040E', 't': '08081C0808 0906'.replace(' ', ''), 'u': '0000111111130D', 'f': '0609081C080808', 'r': '00001619101010', 'q': '00000D130F0101',
     'y': '000011110F010E', 'g': '00000F110F010E', 'w': '0000111115150A', 'v': '00001111110A04', 'b': '10101619111 11E'.replace(' ', ''), 'h': '10101619111111',
     'x': '0000110A040A11', 'B': '1E11111E11111E', 'j': '0200060202120C', '/': '00010204081000', '_': '0000000000001F',
+    '(': '02040808080402', ')': '08040202020408', '+': '0004041F040400', '=': '00001F001F0000', '%': '18190204081303', '#': '0A0A1F0A1F0A0A',
 }
+UNKNOWN = '1F11111111111F'  # a box, where the font has no such letter
+
+
+class NoPicture(Exception):
+    """Why a file is not drawn."""
+
+
+def form_of(chunk):
+    """The rate, where a chunk `fmt ` is that of one channel of 32-bit floats."""
+    if len(chunk) < 16:
+        raise NoPicture('its chunk fmt is too short')
+    form, channels, rate, _, _, bits = struct.unpack_from('<HHIIHH', chunk)
+    if (form, channels, bits) != (3, 1, 32):
+        kind = {1: 'whole numbers', 3: 'floats'}.get(form, f'format {form}')
+        raise NoPicture(f'{channels} channel{"s" * (channels != 1)} of {bits}-bit {kind}, and only one channel of 32-bit floats is drawn')
+    if rate == 0:
+        raise NoPicture('its rate is 0')
+    return rate
 
 
 def read(path):
     """The rate and the samples."""
-    b = open(path, 'rb').read()
-    assert b[:4] == b'RIFF' and b[8:12] == b'WAVE', 'no WAV file'
-    at, rate, data = 12, 0, b''
-    while at + 8 <= len(b):
+    with open(path, 'rb') as file:
+        b = file.read()
+    if b[:4] != b'RIFF' or b[8:12] != b'WAVE':
+        raise NoPicture('no WAV file')
+    at, rate, data = 12, None, None
+    while at + 8 <= len(b) and data is None:
         mark, n = b[at:at + 4], struct.unpack_from('<I', b, at + 4)[0]
+        chunk = b[at + 8:at + 8 + n]
+        if len(chunk) < n:
+            raise NoPicture(f'cut short: {len(chunk)} of the {n} bytes of a chunk are there')
         if mark == b'fmt ':
-            form, channels, rate = struct.unpack_from('<HHI', b, at + 8)
-            assert (form, channels) == (3, 1), 'not one channel of floats'
+            rate = form_of(chunk)
         if mark == b'data':
-            data = b[at + 8:at + 8 + n]
+            data = chunk
         at += 8 + n + n % 2
-    return rate, struct.unpack(f'<{len(data) // 4}f', data)
+    if rate is None or data is None:
+        raise NoPicture('cut short: it has no sound')
+    return rate, struct.unpack(f'<{len(data) // 4}f', data[:len(data) // 4 * 4])
 
 
 def fft(x):
@@ -71,7 +99,7 @@ class Canvas:
 
     def text(self, x, y, s, colour=INK, scale=1):
         for ch in s:
-            rows = bytes.fromhex(FONT.get(ch, FONT.get(ch.lower(), FONT[' '])))
+            rows = bytes.fromhex(FONT.get(ch, FONT.get(ch.lower(), UNKNOWN)))
             for j, row in enumerate(rows):
                 for i in range(5):
                     if row >> (4 - i) & 1:
@@ -87,7 +115,8 @@ class Canvas:
         raw = b''.join(b'\0' + bytes(r) for r in self.rows)
         chunk = lambda mark, d: struct.pack('>I', len(d)) + mark + d + struct.pack('>I', zlib.crc32(mark + d))
         head = struct.pack('>IIBBBBB', W, H, 8, 2, 0, 0, 0)
-        open(path, 'wb').write(b'\x89PNG\r\n\x1a\n' + chunk(b'IHDR', head) + chunk(b'IDAT', zlib.compress(raw, 9)) + chunk(b'IEND', b''))
+        with open(path, 'wb') as file:
+            file.write(b'\x89PNG\r\n\x1a\n' + chunk(b'IHDR', head) + chunk(b'IDAT', zlib.compress(raw, 9)) + chunk(b'IEND', b''))
 
 
 def heat(v):
@@ -98,55 +127,113 @@ def heat(v):
     return tuple(round(a + (x - i) * (b - a)) for a, b in zip(stops[i], stops[i + 1]))
 
 
-def main():
-    rate, s = read(sys.argv[1])
-    c = Canvas()
-    wide = W - LEFT - RIGHT
-    seconds = len(s) / rate
-    peak = max(map(abs, s), default=0.0) or 1.0
-    name = sys.argv[1].split('/')[-1]
-    c.text(LEFT, 18, f'{name}', scale=2)
-    c.right(W - RIGHT, 22, f'{len(s)} samples, {rate} Hz, peak {peak:.3f}')
-    # the waveform
+WIDE = W - LEFT - RIGHT
+SIZE = 1024  # samples of a spectrum
+QUIET = 1e-9  # less than any sound: what silence counts as
+
+
+def wave(c, s, peak):
+    """The waveform: of each column the highest and the lowest sample."""
     mid, half = (WAVE_TOP + WAVE_BOTTOM) // 2, (WAVE_BOTTOM - WAVE_TOP) // 2
+    full = peak or 1.0
     for v in (-1, 0, 1):
         y = mid - round(v * half)
         c.line(LEFT, W - RIGHT, y, GRID)
-        c.right(LEFT - 8, y - 3, f'{v * peak:.2f}')
-    for x in range(wide):
-        part = s[x * len(s) // wide:max((x + 1) * len(s) // wide, x * len(s) // wide + 1)]
-        c.bar(LEFT + x, mid - round(max(part) / peak * half), mid - round(min(part) / peak * half), LINE)
-    # the spectrogram, up to 12 kHz or half the rate
-    size, top = 1024, min(12000, rate // 2)
-    window = [0.5 - 0.5 * math.cos(2 * math.pi * i / size) for i in range(size)]
-    columns = min(240, max(1, (len(s) - size) // (size // 8)))
-    grid = []
+        c.right(LEFT - 8, y - 3, f'{v * full:.2f}')
+    for x in range(WIDE if s else 0):
+        part = s[x * len(s) // WIDE:max((x + 1) * len(s) // WIDE, x * len(s) // WIDE + 1)]
+        c.bar(LEFT + x, mid - round(max(part) / full * half), mid - round(min(part) / full * half), LINE)
+
+
+def spectra(s):
+    """The magnitudes of up to 240 spectra along the sound; zeros follow a sound that is shorter than one."""
+    window = [0.5 - 0.5 * math.cos(2 * math.pi * i / SIZE) for i in range(SIZE)]
+    columns = min(240, max(1, (len(s) - SIZE) // (SIZE // 8)))
     for k in range(columns):
-        at = k * max(0, len(s) - size) // max(1, columns - 1)
-        spectrum = fft([complex(a * w) for a, w in zip(s[at:at + size], window)])
-        grid.append([20 * math.log10(abs(v) / size * 4 + 1e-9) for v in spectrum[:size // 2]])
+        at = k * max(0, len(s) - SIZE) // max(1, columns - 1)
+        part = s[at:at + SIZE]
+        part = [*part, *([0.0] * (SIZE - len(part)))]
+        yield [abs(v) / SIZE * 4 for v in fft([complex(a * w) for a, w in zip(part, window)])[:SIZE // 2]]
+
+
+def spectrogram(c, s, rate, top):
+    """Up to the frequency `top`, 80 dB down from the loudest spot."""
+    grid = list(spectra(s))
     loud = max(max(col) for col in grid)
-    for x in range(wide):
-        col = grid[x * columns // wide]
+    for x in range(WIDE):
+        col = grid[x * len(grid) // WIDE]
         for y in range(SPEC_TOP, SPEC_BOTTOM + 1):
             hz = (SPEC_BOTTOM - y) / (SPEC_BOTTOM - SPEC_TOP) * top
-            c.dot(LEFT + x, y, heat((col[min(int(hz * size / rate), size // 2 - 1)] - loud + 80) / 80))
-    for hz in range(0, top + 1, 2000):
+            v = col[min(int(hz * SIZE / rate), SIZE // 2 - 1)]
+            c.dot(LEFT + x, y, heat(20 * math.log10(v / loud) / 80 + 1 if min(v, loud) > QUIET else 0))
+
+
+def mark_frequencies(c, top):
+    """Four to nine marks at 1, 2 or 5 times a power of ten."""
+    step = next(n * 10 ** e for e in range(6) for n in (1, 2, 5) if top < n * 10 ** e * 9)
+    for hz in range(0, top + 1, step):
         y = SPEC_BOTTOM - round(hz / top * (SPEC_BOTTOM - SPEC_TOP))
         c.line(LEFT - 5, LEFT - 1, y, INK)
-        c.right(LEFT - 8, y - 3, f'{hz // 1000} kHz')
-    for t in range(11):
-        x = LEFT + t * (wide - 1) // 10
+        c.right(LEFT - 8, y - 3, f'{hz / 1000:g} kHz')
+
+
+def places_for(step):
+    """As many places as tell the marks apart: two or more, up to six."""
+    return next((n for n in range(2, 6) if abs(step - round(step, n)) < 1e-9), 6)
+
+
+def mark_times(c, seconds):
+    places = places_for(seconds / 10)
+    for t in range(11 if seconds else 1):
+        x = LEFT + t * (WIDE - 1) // 10
         c.bar(x, SPEC_BOTTOM + 1, SPEC_BOTTOM + 5, INK)
         c.bar(x, WAVE_BOTTOM + 2, WAVE_BOTTOM + 5, INK)
-        mark = f'{seconds * t / 10:.2f} s'
+        mark = f'{seconds * t / 10:.{places}f} s'
         c.text(min(x - 3 * len(mark), W - 6 * len(mark) - 4), SPEC_BOTTOM + 11, mark)
+
+
+def draw(name, rate, samples):
+    c = Canvas()
+    s = [x if math.isfinite(x) else 0.0 for x in samples]
+    odd = sum(not math.isfinite(x) for x in samples)
+    peak = max(map(abs, s), default=0.0)
+    top = min(12000, max(1, rate // 2))
+    seconds = len(s) / rate
+    facts = f'{len(s)} samples, {rate} Hz, peak {peak:.3f}' + (f', {odd} no finite number' if odd else '')
+    room = (WIDE - 6 * len(facts)) // 12 - 1
+    c.text(LEFT, 18, name if len(name) <= room else name[:room - 2] + '..', scale=2)
+    c.right(W - RIGHT, 22, facts)
+    wave(c, s, peak)
+    spectrogram(c, s, rate, top)
+    mark_frequencies(c, top)
+    mark_times(c, seconds)
     c.text(LEFT, WAVE_TOP - 14, 'sound')
-    c.text(LEFT, SPEC_TOP - 14, 'spectrum: 80 dB from pale to yellow')
-    c.text(LEFT + wide // 2 - 40, SPEC_BOTTOM + 30, 'time in seconds')
-    c.save(sys.argv[2])
-    print(f'{sys.argv[2]}: {W} by {H}, {seconds:.2f} s of sound')
+    c.text(LEFT, SPEC_TOP - 14, f'spectrum up to {top / 1000:g} kHz of {rate / 2000:g}: ' + ('80 dB from pale to yellow' if peak else 'silence'))
+    c.text(LEFT + WIDE // 2 - 40, SPEC_BOTTOM + 30, 'time in seconds')
+    return c, seconds
+
+
+def main():
+    if sys.argv[1:] == ['--help']:
+        print(__doc__.strip())
+        return 0
+    if len(sys.argv) != 3 or any(a.startswith('--') for a in sys.argv[1:]):
+        print('picture: a WAV file and a picture to write are needed: tools/picture.py IN.wav OUT.png (--help tells more)', file=sys.stderr)
+        return 2
+    path, picture = sys.argv[1:]
+    try:
+        rate, samples = read(path)
+        c, seconds = draw(path.split('/')[-1], rate, samples)
+        c.save(picture)
+    except NoPicture as why:
+        print(f'{path}: {why}', file=sys.stderr)
+        return 1
+    except OSError as e:
+        print(f'{e.filename}: {e.strerror}', file=sys.stderr)
+        return 1
+    print(f'{picture}: {W} by {H}, {seconds:.{places_for(seconds)}f} s of sound')
+    return 0
 
 
 if __name__ == '__main__':
-    main()
+    sys.exit(main())

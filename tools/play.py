@@ -216,6 +216,12 @@ class Voice:
         return out
 
 
+def counted(n, noun):
+    """A number with its noun, as the programs say it."""
+    plural = noun[:-1] + 'ies' if noun.endswith('y') else noun + 's'
+    return f'{n} {noun if n == 1 else plural}'
+
+
 def wav(rate, samples):
     data = struct.pack(f'<{len(samples)}f', *samples)
     head = b'WAVE' + b'fmt ' + struct.pack('<IHHIIHHH', 18, 3, 1, rate, rate * 4, 4, 32, 0)
@@ -229,7 +235,7 @@ def main():
     p.add_argument('--single', type=int, default=0)
     p.add_argument('--blend', action='store_true')
     p.add_argument('--rate', type=int, default=48000)
-    p.add_argument('--freq', type=decimal, default=220.0)
+    p.add_argument('--freq', type=decimal)
     p.add_argument('--to', type=decimal)
     p.add_argument('--gain', type=decimal, action='append', default=[])
     p.add_argument('--seconds', default='1')
@@ -237,6 +243,7 @@ def main():
     p.add_argument('--centres')
     p.add_argument('--words')
     o = p.parse_args()
+    freq = 220.0 if o.freq is None else o.freq
     centres = [decimal(l.strip()) for l in open(o.centres) if l.strip() and not l.startswith('#')] if o.centres else []
     v = Voice(table(open(o.table, 'rb').read()), None if o.blend else o.single, float(o.rate), centres)
     if o.seed is not None:
@@ -246,19 +253,25 @@ def main():
     gains = o.gain + [1.0, 0.0, 0.0, 0.0][len(o.gain):]
     out = []
     for n in range(total):
-        f0 = o.freq if o.to is None else lerp(o.freq, o.to, f(f(n) / f(total)))
+        f0 = freq if o.to is None else lerp(freq, o.to, f(f(n) / f(total)))
         out.append(v.sample(f0 if f0 > 0 and math.isfinite(f0) else 0.0, gains))
     peak = max([abs(x) for x in out], default=0.0)
     if o.words:
         b = open(o.table, 'rb').read()
         n = struct.unpack_from('<I', b, 6)[0]
-        print(f'table "{b[10:10 + n].decode()}": {len(table(b))} entries; the voice has {v.m} partials and {v.j} noise bands')
+        has = f'{counted(v.m, "partial")} and {counted(v.j, "noise band")}'
+        print(f'table "{b[10:10 + n].decode()}": {counted(len(table(b)), "entry")}; the voice has {has}')
+        print(f'pitch {freq:.6f}' + (f' to {o.to:.6f}' if o.to is not None else '') + ' Hz' + (' (no --freq was given)' if o.freq is None else ''))
+        if v.k < len(o.gain):
+            print(f'the voice has {counted(v.k, "channel")}: the gains beyond are not heard')
         blocks = -(-total // 128)
         for d in range(1, blocks + 1):
             if (d - 1) * 10 // blocks < d * 10 // blocks:
                 print(f'played {min(d * 128, total)} of {total} samples')
         print(f'wrote {o.words}: ', end='')
     print(f'{total} samples at {o.rate} a second, peak {peak:.6f}, CRC-32 of the file {zlib.crc32(wav(o.rate, out)):08x}')
+    if o.words and peak > 1:
+        print('the peak is above 1, where players cut it off: a lower --gain helps')
 
 
 if __name__ == '__main__':

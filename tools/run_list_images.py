@@ -1,10 +1,17 @@
 #!/usr/bin/env python3
 """Writes crates/run_list/src/images.rt: the tables that the program run_list makes voices of.
 
+    tools/run_list_images.py            writes the file, as `rt fmt` lays it out
+    tools/run_list_images.py --check    compares it with what it would write; status 1 where it differs
+
 Each has entries of one partial (M = 1, k = 1, j = 0, coefficient 1.0, stretch 1.0, no metadata) with pitches 100, 110, ..
-Run at the repository's root: python3 tools/run_list_images.py
 """
 import struct
+import sys
+from pathlib import Path
+
+sys.path.insert(0, str(Path(__file__).resolve().parent))
+import made
 
 
 def image(pitches, partials=1):
@@ -26,10 +33,15 @@ TABLES = [
     ("EMPTY", "no entries", image([])),
 ]
 
-with open("crates/run_list/src/images.rt", "w") as f:
-    f.write("// Tables for the runs, written by tools/run_list_images.py.\n")
+
+def files():
+    out = "// Tables for the runs, written by tools/run_list_images.py.\n"
     for name, what, data in TABLES:
-        f.write(f"\n// {what}\npub const {name}: [u8; {len(data)}] = [\n")
-        for i in range(0, len(data), 16):
-            f.write("    " + ", ".join(str(b) for b in data[i:i + 16]) + ",\n")
-        f.write("];\n")
+        head, numbers = f"pub const {name}: [u8; {len(data)}] = [", [str(b) for b in data]
+        line = head + ", ".join(numbers) + "];"
+        out += f"\n// {what}\n" + (line if len(line) <= 100 else head + "\n    " + ",\n    ".join(numbers) + ",\n];") + "\n"
+    return {"crates/run_list/src/images.rt": out.encode()}
+
+
+if __name__ == "__main__":
+    sys.exit(made.main(__doc__, files))

@@ -38,11 +38,13 @@ fn main() {
         reading.print("reading");
     }
     #[allow(unused_mut)]
-    let mut playing = Tally::default();
+    let (mut playing, mut powers) = (Tally::default(), Tally::default());
     #[cfg(playing)]
     if !a.iter().any(|x| x == "--only-reading") {
         playing::run(number("--voices", 3000) as usize, seed, &mut playing);
         playing.print("playing");
+        playing::powers(number("--powers", 10_000) as usize, seed, &mut powers);
+        println!("noise powers: {} cases, {} differences", powers.cases, powers.differences);
         for (what, asked) in [("lists", number("--lists", 0)), ("long", number("--long", 0))] {
             if asked == 0 {
                 continue;
@@ -57,8 +59,9 @@ fn main() {
             playing.add(&tally);
         }
     }
-    let differences = reading.differences + playing.differences;
-    println!("compare: seed {seed}, {} cases, {} samples, {differences} differences", reading.cases + playing.cases, playing.samples);
+    let differences = reading.differences + playing.differences + powers.differences;
+    let cases = reading.cases + playing.cases;
+    println!("compare: seed {seed}, {cases} cases, {} samples, {} noise powers, {differences} differences", playing.samples, powers.cases);
     if differences > 0 {
         std::process::exit(1)
     }

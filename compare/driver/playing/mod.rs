@@ -4,6 +4,7 @@ mod comparing;
 mod list;
 mod long;
 mod original;
+mod power;
 mod questions;
 mod shrinking;
 mod times;
@@ -29,6 +30,7 @@ use questions::*;
 
 pub use list::write_list;
 pub use long::long;
+pub use power::powers;
 pub use shrinking::{run, run_lists};
 pub use times::race;
 

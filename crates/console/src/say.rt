@@ -9,6 +9,22 @@ pub fn number(fd: i32, n: u64) {
     io::print_decimal(fd, n);
 }
 
+// A number with its noun: the first words where it is 1, else the second.
+pub fn counted(fd: i32, n: u64, one: &[u8], many: &[u8]) {
+    io::print_decimal(fd, n);
+    if n == 1 {
+        text(fd, one);
+    } else {
+        text(fd, many);
+    }
+}
+
+// The last words on standard error where a program was called with wrong arguments: by them tools/status gives status 2.
+pub fn wrong_use(program: &[u8]) {
+    text(2, program);
+    text(2, b" --help tells how it is used\n");
+}
+
 // The digits of n, with zeros in front up to `width`, which is at most 13.
 fn padded(fd: i32, n: u64, width: usize) {
     let mut digits = [0u8; 20];

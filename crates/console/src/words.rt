@@ -2,6 +2,23 @@
 use crate::say;
 use sounder::Answer;
 
+// The words for question 7: an entry with one of the two keys is held to itself.
+fn span(fd: i32, first: u64, entry: u64) {
+    if first == entry {
+        say::text(fd, b"entry ");
+        say::number(fd, entry);
+        say::text(
+            fd,
+            b" has only one of the keys noise_band_min_hz and noise_band_max_hz",
+        );
+    } else {
+        say::text(fd, b"the noise band span of entry ");
+        say::number(fd, entry);
+        say::text(fd, b" does not agree with that of entry ");
+        say::number(fd, first);
+    }
+}
+
 // The words for questions 1 to 7, of reading.
 fn reading(fd: i32, a: Answer) {
     let number = a.number;
@@ -26,12 +43,7 @@ fn reading(fd: i32, a: Answer) {
                 b" has another number of coefficients than its channels, partials and bands call for",
             );
         }
-        _ => {
-            say::text(fd, b"the noise band span of entry ");
-            say::number(fd, a.second as u64);
-            say::text(fd, b" does not agree with that of entry ");
-            say::number(fd, a.first as u64);
-        }
+        _ => span(fd, a.first as u64, a.second as u64),
     }
 }
 
@@ -87,4 +99,19 @@ pub fn refusal(fd: i32, a: Answer) {
         }
     }
     say::text(fd, b"\n");
+}
+
+// A making's refusal. Of 12 it says how many centres the voice needs and got; where these are as many, one is not finite.
+pub fn making_refusal(fd: i32, a: Answer, needed: u64, got: u64) {
+    if a.number == 12 {
+        if needed != got {
+            say::text(fd, b"refusal 12: the voice needs ");
+            say::counted(fd, needed, b" centre", b" centres");
+            say::text(fd, b", one for each noise band, and got ");
+            say::number(fd, got);
+            say::text(fd, b" (--centres FILE gives them)\n");
+            return;
+        }
+    }
+    refusal(fd, a);
 }

@@ -1,9 +1,10 @@
 // Plays a coefficient table to a WAV file: a table, a voice of it, blocks of 128 samples, and a file of 32-bit floats.
 //
 // The file is written under its name with .part at its end, and gets its name once every byte has reached the disk; where anything
-// fails, the .part is removed. So a file of the name asked for is whole. A name that is there already is left alone.
+// fails, the .part is removed. So a file of the name asked for is whole, or empty where the program was ended in the moment between the
+// taking of the name and the renaming (output.rt). A name that is there already is left alone.
 // A Rattle program has no exit status: everything that goes wrong is said on standard error, and nothing else is, so the shell
-// script tools/tone turns words there into status 1.
+// script tools/tone turns words there into status 1, and into 2 where the last of them are those of wrong use.
 mod crc;
 mod options;
 mod output;
@@ -16,9 +17,13 @@ use console::file;
 use console::say;
 use console::words;
 use options::Options;
+use playing::bits;
+use sounder::Answer;
+use sounder::images::sounder_desk;
 use sounder::images::sounder_from_bytes;
 use sounder::voices::sounder_make;
 use sounder::voices::sounder_reseed;
+use voice::Voice;
 
 fn usage(fd: i32) {
     say::text(
@@ -38,10 +43,13 @@ fn usage(fd: i32) {
         b"  --rate HZ       samples a second, 8000 to 192000 (48000)\n",
     );
     say::text(fd, b"  --freq HZ       the pitch, at most 20000 (220)\n");
-    say::text(fd, b"  --to HZ         glide to this pitch\n");
     say::text(
         fd,
-        b"  --gain G        a gain, up to four times: the first is that of a single voice or of channel 0\n",
+        b"  --to HZ         glide to this pitch, at most 20000\n",
+    );
+    say::text(
+        fd,
+        b"  --gain G        the gain of a single voice (1), or of a blend's channels, up to four times (1, 0, 0, 0)\n",
     );
     say::text(fd, b"  --seconds S     how long, up to 60 (1)\n");
     say::text(fd, b"  --seed N        the noise's seed\n");
@@ -53,6 +61,10 @@ fn usage(fd: i32) {
         fd,
         b"Numbers are decimal, with at most 15 digits. Numbered refusals are in README.md.\n",
     );
+    say::text(
+        fd,
+        b"It writes over nothing. Status (of tools/tone): 0 done, 1 refused or failed, 2 wrong use.\n",
+    );
 }
 
 // What was read, in words.
@@ -60,12 +72,72 @@ fn describe(image: &[u8], entries: usize, partials: usize, bands: usize) {
     say::text(1, b"table \"");
     say::name(1, table::read::name(image));
     say::text(1, b"\": ");
-    say::number(1, entries as u64);
-    say::text(1, b" entries; the voice has ");
-    say::number(1, partials as u64);
-    say::text(1, b" partials and ");
-    say::number(1, bands as u64);
-    say::text(1, b" noise bands\n");
+    say::counted(1, entries as u64, b" entry; ", b" entries; ");
+    say::text(1, b"the voice has ");
+    say::counted(1, partials as u64, b" partial and ", b" partials and ");
+    say::counted(1, bands as u64, b" noise band\n", b" noise bands\n");
+}
+
+// Which pitch is played.
+fn describe_pitch(o: Options) {
+    say::text(1, b"pitch ");
+    say::float(1, bits(o.freq));
+    if o.glides {
+        say::text(1, b" to ");
+        say::float(1, bits(o.to));
+    }
+    let given = o.given;
+    if given[3] {
+        say::text(1, b" Hz\n");
+    } else {
+        say::text(1, b" Hz (no --freq was given)\n");
+    }
+}
+
+// Says where a blend has fewer channels than gains were given.
+fn describe_gains(o: Options, channels: usize) {
+    if channels < o.gains {
+        say::text(1, b"the voice has ");
+        say::counted(1, channels as u64, b" channel", b" channels");
+        say::text(1, b": the gains beyond are not heard\n");
+    }
+}
+
+// Whether a pitch that was asked for can be played; if not, refusal 16 is said before anything is written.
+fn pitch_ok(x: f32, option: &[u8]) -> bool {
+    if 20000.0 < x {
+        say::text(2, option);
+        words::refusal(
+            2,
+            Answer {
+                number: 16,
+                first: 0,
+                second: 0,
+            },
+        );
+        return false;
+    }
+    true
+}
+
+fn pitches_ok(o: Options) -> bool {
+    if o.glides {
+        if !pitch_ok(o.to, b"--to: ") {
+            return false;
+        }
+    }
+    pitch_ok(o.freq, b"--freq: ")
+}
+
+// Plays a voice that was made.
+fn play_voice(o: Options, voice: Voice) {
+    if o.seeded {
+        let again = sounder_reseed(voice, o.seed);
+        let seeded = again.voice;
+        output::write(o, seeded);
+    } else {
+        output::write(o, voice);
+    }
 }
 
 fn play_image(o: Options, image: &[u8], centres: &[f32]) {
@@ -83,19 +155,19 @@ fn play_image(o: Options, image: &[u8], centres: &[f32]) {
     );
     let answer = made.answer;
     if answer.number != 0 {
-        words::refusal(2, answer);
+        let desk = sounder_desk(o.blend, o.channel, image);
+        words::making_refusal(2, answer, desk.bands as u64, centres.len() as u64);
+        return;
+    }
+    if !pitches_ok(o) {
         return;
     }
     let voice = made.voice;
     let set = voice.set;
     describe(image, read.first, set.m, set.j);
-    if o.seeded {
-        let again = sounder_reseed(voice, o.seed);
-        let seeded = again.voice;
-        output::write(o, seeded);
-    } else {
-        output::write(o, voice);
-    }
+    describe_pitch(o);
+    describe_gains(o, set.k);
+    play_voice(o, voice);
 }
 
 fn run(o: Options) {
@@ -115,23 +187,13 @@ fn run(o: Options) {
 }
 
 fn main() {
-    if os::arg_count() < 2 {
-        usage(1);
-        return;
-    }
     let o = options::read();
-    if o.failed {
+    if !options::is_right(o) {
+        say::wrong_use(b"tone");
         return;
     }
     if o.help {
         usage(1);
-        return;
-    }
-    if o.out == 0 {
-        say::text(
-            2,
-            b"tone: a table and a file to write are needed (--help tells more)\n",
-        );
         return;
     }
     run(o);

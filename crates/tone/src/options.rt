@@ -6,7 +6,8 @@ use console::decimal::Whole;
 use console::narrow::value;
 use console::say;
 
-// Arguments by their number on the command line, 0 where there is none. `skip` says that the next argument was a value.
+// Arguments by their number on the command line, 0 where there is none. `skip` says that the next argument was a value, `given` which
+// options were given, by their number below.
 pub struct Options {
     pub table: usize,
     pub out: usize,
@@ -24,6 +25,7 @@ pub struct Options {
     pub seed: u32,
     pub seeded: bool,
     pub skip: bool,
+    pub given: [bool; 10],
     pub help: bool,
     pub failed: bool,
 }
@@ -46,6 +48,7 @@ fn defaults() -> Options {
         seed: 0,
         seeded: false,
         skip: false,
+        given: [false; 10],
         help: false,
         failed: false,
     }
@@ -62,7 +65,7 @@ fn wrong(mut o: Options, word: &[u8], why: &[u8]) -> Options {
     o
 }
 
-// The options that take a value, by number.
+// The options by number: 1 to 8 take a value.
 fn which(word: &[u8]) -> u32 {
     if check::same(word, b"--single") {
         return 1;
@@ -88,15 +91,61 @@ fn which(word: &[u8]) -> u32 {
     if check::same(word, b"--centres") {
         return 8;
     }
+    if check::same(word, b"--blend") {
+        return 9;
+    }
     0
+}
+
+fn say_option(option: u32) {
+    match option {
+        1 => say::text(2, b"--single"),
+        2 => say::text(2, b"--rate"),
+        3 => say::text(2, b"--freq"),
+        4 => say::text(2, b"--to"),
+        5 => say::text(2, b"--gain"),
+        6 => say::text(2, b"--seconds"),
+        7 => say::text(2, b"--seed"),
+        8 => say::text(2, b"--centres"),
+        _ => say::text(2, b"--blend"),
+    }
+}
+
+// Says what is wrong with an option's value.
+fn wrong_value(mut o: Options, option: u32, text: &[u8], why: &[u8]) -> Options {
+    say::text(2, b"tone: ");
+    say_option(option);
+    say::text(2, b" ");
+    say::name(2, text);
+    say::text(2, b": ");
+    say::text(2, why);
+    say::text(2, b"\n");
+    o.failed = true;
+    o
+}
+
+// Notes that an option was given. Only a gain may be given more than once.
+fn note(mut o: Options, option: u32, word: &[u8]) -> Options {
+    if 9 < option {
+        return o;
+    }
+    let n = option as usize;
+    let again = o.given[n];
+    o.given[n] = true;
+    if option == 5 {
+        return o;
+    }
+    if again {
+        return wrong(o, word, b"given twice");
+    }
+    o
 }
 
 fn set_whole(mut o: Options, option: u32, text: &[u8]) -> Options {
     match decimal::read_whole(text) {
-        Whole::Refused => wrong(o, text, b"not a whole number from 0 to 4294967295"),
+        Whole::Refused => wrong_value(o, option, text, b"not a whole number from 0 to 4294967295"),
         Whole::Number(n) => {
             if option == 1 {
-                o.blend = 0;
                 o.channel = n;
                 return o;
             }
@@ -118,7 +167,7 @@ fn set_gain(mut o: Options, text: &[u8], x: f32) -> Options {
         o.gains = n + 1;
         return o;
     }
-    wrong(o, text, b"a fifth gain, and a voice has at most four")
+    wrong_value(o, 5, text, b"a fifth gain, and a voice has at most four")
 }
 
 // Millionths of a second. More than 60 stand for too many, or for a number that is none of them.
@@ -145,8 +194,9 @@ fn millionths(d: Decimal) -> u64 {
 fn set_seconds(mut o: Options, text: &[u8], d: Decimal) -> Options {
     let n = millionths(d);
     if 60000000 < n {
-        return wrong(
+        return wrong_value(
             o,
+            6,
             text,
             b"not a number of seconds from 0 to 60 with at most six places",
         );
@@ -157,7 +207,12 @@ fn set_seconds(mut o: Options, text: &[u8], d: Decimal) -> Options {
 
 fn set_decimal(mut o: Options, option: u32, text: &[u8]) -> Options {
     match decimal::read(text) {
-        DecimalRead::Refused => wrong(o, text, b"not a decimal number of at most 15 digits"),
+        DecimalRead::Refused => wrong_value(
+            o,
+            option,
+            text,
+            b"not a decimal number of at most 15 digits",
+        ),
         DecimalRead::Number(d) => {
             if option == 6 {
                 return set_seconds(o, text, d);
@@ -188,7 +243,12 @@ fn set(mut o: Options, option: u32, i: usize) -> Options {
     let mut text = [0u8; 64];
     let n = os::arg(i, &mut text);
     if os::errno() != 0 {
-        return wrong(o, &text[..n], b"this number has too many digits");
+        return wrong_value(
+            o,
+            option,
+            &text,
+            b".. and so on: too many digits for a number",
+        );
     }
     if option == 1 {
         return set_whole(o, option, &text[..n]);
@@ -204,6 +264,9 @@ fn set(mut o: Options, option: u32, i: usize) -> Options {
 
 // A word that is no option: the table, then the file to write.
 fn place(mut o: Options, word: &[u8], i: usize) -> Options {
+    if word.len() == 0 {
+        return wrong(o, b"an argument", b"it is empty, and names no file");
+    }
     if o.table == 0 {
         o.table = i;
         return o;
@@ -227,16 +290,17 @@ fn take_word(mut o: Options, word: &[u8], i: usize, count: usize) -> Options {
         o.help = true;
         return o;
     }
-    if check::same(word, b"--blend") {
-        o.blend = 1;
-        return o;
-    }
     if !is_option(word) {
         return place(o, word, i);
     }
     let option = which(word);
     if option == 0 {
-        return wrong(o, word, b"no such option (--help tells them)");
+        return wrong(o, word, b"no such option");
+    }
+    o = note(o, option, word);
+    if option == 9 {
+        o.blend = 1;
+        return o;
     }
     if count <= i {
         return o;
@@ -259,6 +323,44 @@ fn take_argument(mut o: Options, i: usize, count: usize) -> Options {
         return wrong(o, b"an argument", b"longer than 4096 bytes");
     }
     take_word(o, &word[..n], i, count)
+}
+
+// Whether what was given goes together; what does not has been said.
+fn goes_together(o: Options) -> bool {
+    let given = o.given;
+    if o.blend == 1 {
+        if given[1] {
+            say::text(
+                2,
+                b"tone: --single and --blend: a voice is one or the other\n",
+            );
+            return false;
+        }
+        return true;
+    }
+    if 1 < o.gains {
+        say::text(
+            2,
+            b"tone: --gain: a single voice has one gain; a blend (--blend) has up to four\n",
+        );
+        return false;
+    }
+    true
+}
+
+// Whether the arguments can be followed. What is wrong with them has been said.
+pub fn is_right(o: Options) -> bool {
+    if o.failed {
+        return false;
+    }
+    if o.help {
+        return true;
+    }
+    if o.out == 0 {
+        say::text(2, b"tone: a table and a file to write are needed\n");
+        return false;
+    }
+    goes_together(o)
 }
 
 // Reads all arguments. What is wrong with them has been said where `failed` is set.

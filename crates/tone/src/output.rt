@@ -153,8 +153,53 @@ fn report(path: &[u8], o: Options, run: Run, total: u32) {
     say::float(1, run.peak);
     say::text(1, b", CRC-32 of the file ");
     io::print_hex(1, crc::finish(s.crc) as u64, 8);
+    if 0x3f80_0000 < run.peak {
+        say::text(
+            1,
+            b"\nthe peak is above 1, where players cut it off: a lower --gain helps",
+        );
+    }
     if !io::write_all(1, b"\n") {
         os::fail(b"standard output");
+    }
+}
+
+// Says that a name is taken.
+fn say_taken(path: &[u8]) {
+    say::name(2, path);
+    say::text(2, b": there already, and tone writes over nothing\n");
+}
+
+// Gives the whole part its name. The name is taken first, by a new file, which the system makes only where nothing has the name,
+// a link that leads nowhere among them; that file is the one that the renaming replaces. Answers whether the name was given.
+fn give_name(path: &[u8], part: &[u8]) -> bool {
+    let own = os::create(path);
+    if own < 0 {
+        if os::errno() == libc::EEXIST {
+            say_taken(path);
+        } else {
+            os::fail(path);
+        }
+        return false;
+    }
+    libc::close(own);
+    if os::rename(part, path) < 0 {
+        os::fail(path);
+        os::unlink(path);
+        return false;
+    }
+    true
+}
+
+// Says that the part cannot be made, and where one is there, why that may be.
+fn no_part(part: &[u8]) {
+    let there = os::errno() == libc::EEXIST;
+    os::fail(part);
+    if there {
+        say::text(
+            2,
+            b"a run that was interrupted may have left it, or one is under way: remove it, then play again\n",
+        );
     }
 }
 
@@ -162,7 +207,7 @@ fn report(path: &[u8], o: Options, run: Run, total: u32) {
 fn make_file(o: Options, voice: Voice, path: &[u8], part: &[u8]) {
     let fd = os::create(part);
     if fd < 0 {
-        os::fail(part);
+        no_part(part);
         return;
     }
     let total = samples(o);
@@ -173,9 +218,7 @@ fn make_file(o: Options, voice: Voice, path: &[u8], part: &[u8]) {
         if closed < 0 {
             os::fail(part);
         } else {
-            if os::rename(part, path) < 0 {
-                os::fail(path);
-            } else {
+            if give_name(path, part) {
                 report(path, o, run, total);
                 return;
             }
@@ -184,10 +227,14 @@ fn make_file(o: Options, voice: Voice, path: &[u8], part: &[u8]) {
     os::unlink(part);
 }
 
-// Whether something has the name already, whatever it is.
+// Whether something has the name already, whatever it is: also a link that leads nowhere.
 fn is_taken(mut path: [u8; 4096]) -> bool {
     path[4095] = 0;
-    libc::access(&path, libc::F_OK) == 0
+    if libc::access(&path, libc::F_OK) == 0 {
+        return true;
+    }
+    let mut target = [0u8; 1];
+    0 <= libc::readlink(&path, &mut target)
 }
 
 // Puts .part after a name of n bytes, and answers how long the two are; 0 where there is no room.
@@ -224,8 +271,7 @@ pub fn write(o: Options, voice: Voice) {
     }
     let again = name_of(o);
     if is_taken(again) {
-        say::name(2, &path[..n]);
-        say::text(2, b": there already, and tone writes over nothing\n");
+        say_taken(&path[..n]);
         return;
     }
     let mut part = io::buffer();

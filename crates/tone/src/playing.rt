@@ -41,7 +41,7 @@ fn frequencies(o: Options, first: u32, total: u32) -> [f32; 128]
 }
 
 // The pattern of a float; one for every NaN.
-fn bits(x: f32) -> u32 {
+pub fn bits(x: f32) -> u32 {
     if x != x {
         return 0x7fc0_0000;
     }
