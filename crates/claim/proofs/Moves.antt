@@ -33,7 +33,7 @@ use Rattle.filters.specs.declared.rng.Rng.{Rng}
 use Rattle.voice.specs.declared.voice.State.{State}
 use Rattle.voice.specs.declared.voice.Voice.{Voice}
 use Rattle.claim.specs.Machine.{Plain, plainFrom, Machine, Event, frequency, reset, seed, startFrom, advanced, tick, stretchOf, noiseNext, atFrequency, Supplied, supplied, move, machineFrom}
-use Rattle.claim.specs.Calls.{VoiceCall, playing, resetting, reseeding, after, run, fedBy, fed, running, CallsF32}
+use Rattle.claim.specs.Calls.{callOf, outLength, VoiceCall, playing, resetting, reseeding, after, run, fedBy, fed, running}
 use Rattle.claim.proofs.Folds.{take-replicate, getD-padded}
 use Rattle.claim.proofs.Memories.{memories-first}
 use Rattle.claim.proofs.Front.{stretch-front}
@@ -120,7 +120,7 @@ first-sized = record { places = refl }
 
 after-sized : (v : Voice) (c : VoiceCall) → Sized (v .state) → Sized (after v c .state)
 unfolding after played resetOf reseedOf
-after-sized v (playing c out) h = accepted-sized (playQuestion v c (length out)) v (blockEnd v c) h (stateAt-sized v (frequencyAt c 0) (c .shape .samples) h)
+after-sized v (playing p) h = accepted-sized (playQuestion v (callOf p) (outLength p)) v (blockEnd v (callOf p)) h (stateAt-sized v (frequencyAt (callOf p) 0) (p .shape .samples) h)
 after-sized v resetting h = accepted-sized (ask (keepsRules v) 13 0) v firstState h first-sized
 after-sized v (reseeding n) h = accepted-sized (ask (keepsRules v) 13 0) v (reseededState (v .state) n) h (record { places = refl })
 
@@ -223,22 +223,22 @@ module _ (k : Kind) (es : List PitchEntry) (rate : Float) (centres : List Float)
     pub view-after : (m : Making) (s : State) (c : VoiceCall) → plainly .phases ≤ 32 → Sized s → keepsRules (withState fresh s) ≡ true
         → supplied plainly (running (after (withState fresh s) c)) ≡ machineFrom (supply s) (fedBy m c)
     unfolding after played resetOf reseedOf fedBy machineFrom move
-    view-after m s (playing c out) a z h =
-        rw (← question-call (withState fresh s) c (length out) h)
-        (view-accepted plainly (playQuestion (withState fresh s) c (length out)) (withState fresh s) _ _ (view-stateAt s (frequencyAt c 0) (c .shape .samples) z))
+    view-after m s (playing p) a z h =
+        rw (← question-call (withState fresh s) (callOf p) (outLength p) h)
+        (view-accepted plainly (playQuestion (withState fresh s) (callOf p) (outLength p)) (withState fresh s) _ _ (view-stateAt s (frequencyAt (callOf p) 0) (p .shape .samples) z))
     view-after m s resetting a z h = rw (question-none (withState fresh s) h) (ap (supplied plainly) (view-first a))
     view-after m s (reseeding n) a z h = rw (question-none (withState fresh s) h) (view-reseed s n)
 
     -- LAW: a list of calls
-    pub view-run : (m : Making) (cs : List VoiceCall) (s : State) → plainly .phases ≤ 32 → VoiceF32 fresh → CallsF32 cs → Sized s → keepsRules (withState fresh s) ≡ true
+    pub view-run : (m : Making) (cs : List VoiceCall) (s : State) → plainly .phases ≤ 32 → VoiceF32 fresh → Sized s → keepsRules (withState fresh s) ≡ true
         → supplied plainly (running (run (withState fresh s) cs)) ≡ machineFrom (supply s) (fed m cs)
-    unfolding run fed CallsF32 machineFrom
-    view-run m [] s a W C z h = refl
-    view-run m (c ∷ cs) s a W C z h =
+    unfolding run fed machineFrom
+    view-run m [] s a W z h = refl
+    view-run m (c ∷ cs) s a W z h =
         let v = withState fresh s in
         let t = after v c .state in
         let e : after v c ≡ withState fresh t = after-state v c in
         ap (λ w. supplied plainly (running (run w cs))) e
-        ∙ view-run m cs t a W (C .1) (after-sized v c z) (rw e at (rules-kept v c (with-32 fresh s W) (C .0) h))
+        ∙ view-run m cs t a W (after-sized v c z) (rw e at (rules-kept v c (with-32 fresh s W) h))
         ∙ ap (λ y. machineFrom y (fed m cs)) (ap (λ w. supplied plainly (running w)) (sym e) ∙ view-after m s c a z h)
         ∙ sym (machine-append (supply s) (fedBy m c) (fed m cs))

@@ -31,7 +31,7 @@ use Rattle.voice.proofs.QuestionLaws.{kept, counts-are, call-accepted}
 use Rattle.player.proofs.PhaseLaws.{step-step}
 use Rattle.player.proofs.RangeLaws.{advance-ok, phase-passes}
 use Rattle.player.proofs.SoundLaws.{cleaned-within, voice-fits, frequencies-fit}
-use Rattle.claim.specs.Calls.{VoiceCall, playing, resetting, reseeding, after, run, AllF32, CallF32, CallsF32}
+use Rattle.claim.specs.Calls.{AllF32, PlayCall, callOf, outLength, VoiceCall, playing, resetting, reseeding, after, run}
 use Rattle.claim.proofs.Sides.{between-stretch}
 
 -- a cleaned frequency is an f32 value
@@ -127,9 +127,9 @@ part-fits : (b : Bool) (k n : ℕ) (fs : List Float) (i : ℕ) → AllF32 fs →
 part-fits true k n fs i h = round-fits binary32 false 220 1
 part-fits false k n fs i h = take-fits n (drop k fs) i (drop-32 k fs h)
 
-frequency-fits : (c : Call) (ch i : ℕ) → AllF32 (c .freq) → T (fits binary32 (frequencyAt c ch i))
+frequency-fits : (p : PlayCall) (ch i : ℕ) → T (fits binary32 (frequencyAt (callOf p) ch i))
 unfolding partOf
-frequency-fits c ch i h = part-fits (eqb (c .shape .freq) 0) ((ch % c .shape .freq) * c .shape .samples) (c .shape .samples) (c .freq) i h
+frequency-fits p ch i = part-fits (eqb (p .shape .freq) 0) ((ch % p .shape .freq) * p .shape .samples) (p .shape .samples) (p .freq .list) i (p .freq .are32)
 
 -- ---- a call
 -- with question 13 answered yes, the call's own questions are left
@@ -153,17 +153,18 @@ first-ok m h = at-every (λ i. phaseOk (getD (firstState .phases) i nan)) m (λ 
     zero-ok = unfold round le lt eq in refl
 
 -- LAW: a voice that keeps the rules keeps them after a call
-pub rules-kept : (v : Voice) (c : VoiceCall) → VoiceF32 v → CallF32 c → keepsRules v ≡ true → keepsRules (after v c) ≡ true
+pub rules-kept : (v : Voice) (c : VoiceCall) → VoiceF32 v → keepsRules v ≡ true → keepsRules (after v c) ≡ true
 unfolding after played resetOf reseedOf
-rules-kept v (playing c out) W C h =
-    accepted-rules (playQuestion v c (length out)) v (withState v (blockEnd v c)) h
+rules-kept v (playing p) W h =
+    let c = callOf p in
+    accepted-rules (playQuestion v c (outLength p)) v (withState v (blockEnd v c)) h
     (λ e.
     let n = c .shape .samples in
-    let A = call-accepted c (length out) (sym (question-call v c (length out) h) ∙ e) in
+    let A = call-accepted c (outLength p) (sym (question-call v c (outLength p) h) ∙ e) in
     rules-with v (blockEnd v c) h
-    (stateAt-ok v (voice-fits v h .entries) W (frequencyAt c 0) n (frequencies-fit (c .shape .freq) n 0 (c .freq) (A .frequencies)) (λ i. frequency-fits c 0 i C) (phases-of v h)))
-rules-kept v resetting W C h = accepted-rules (ask (keepsRules v) 13 0) v (withState v firstState) h (λ e. rules-with v firstState h (first-ok (v .set .m) (phases-most v h)))
-rules-kept v (reseeding n) W C h =
+    (stateAt-ok v (voice-fits v h .entries) W (frequencyAt c 0) n (frequencies-fit (c .shape .freq) n 0 (c .freq) (A .frequencies)) (frequency-fits p 0) (phases-of v h)))
+rules-kept v resetting W h = accepted-rules (ask (keepsRules v) 13 0) v (withState v firstState) h (λ e. rules-with v firstState h (first-ok (v .set .m) (phases-most v h)))
+rules-kept v (reseeding n) W h =
     accepted-rules (ask (keepsRules v) 13 0) v (withState v (reseededState (v .state) n)) h (λ e. rules-with v (reseededState (v .state) n) h (phases-of v h))
 
 -- a call leaves all but the running state as it was
@@ -173,7 +174,7 @@ accepted-state (suc q) v s = refl
 
 pub after-state : (v : Voice) (c : VoiceCall) → after v c ≡ withState v (after v c .state)
 unfolding after played resetOf reseedOf
-after-state v (playing c out) = accepted-state (playQuestion v c (length out)) v _
+after-state v (playing p) = accepted-state (playQuestion v (callOf p) (outLength p)) v _
 after-state v resetting = accepted-state (ask (keepsRules v) 13 0) v _
 after-state v (reseeding n) = accepted-state (ask (keepsRules v) 13 0) v _
 
@@ -184,10 +185,10 @@ pub after-32 : (v : Voice) (c : VoiceCall) → VoiceF32 v → VoiceF32 (after v 
 after-32 v c W = rw (after-state v c) (with-32 v (after v c .state) W)
 
 -- LAW: and after any list of calls
-pub rules-kept-run : (v : Voice) (cs : List VoiceCall) → VoiceF32 v → CallsF32 cs → keepsRules v ≡ true → keepsRules (run v cs) ≡ true
-unfolding run CallsF32
-rules-kept-run v [] W C h = h
-rules-kept-run v (c ∷ cs) W C h = rules-kept-run (after v c) cs (after-32 v c W) (C .1) (rules-kept v c W (C .0) h)
+pub rules-kept-run : (v : Voice) (cs : List VoiceCall) → VoiceF32 v → keepsRules v ≡ true → keepsRules (run v cs) ≡ true
+unfolding run
+rules-kept-run v [] W h = h
+rules-kept-run v (c ∷ cs) W h = rules-kept-run (after v c) cs (after-32 v c W) (rules-kept v c W h)
 
 -- ---- refused calls
 accepted-same : (q : ℕ) (v w : Voice) → (q ≡ 0 → ⊥) → accepted q w v ≡ v
@@ -195,9 +196,9 @@ accepted-same zero v w h = absurd (h refl)
 accepted-same (suc q) v w h = refl
 
 -- LAW: a play that one of its questions refuses returns the voice as given
-pub refused-same : (v : Voice) (c : Call) (out : List Float) → keepsRules v ≡ true → (callQuestion c (length out) ≡ 0 → ⊥) → after v (playing c out) ≡ v
+pub refused-same : (v : Voice) (p : PlayCall) → keepsRules v ≡ true → (callQuestion (callOf p) (outLength p) ≡ 0 → ⊥) → after v (playing p) ≡ v
 unfolding after played
-refused-same v c out h r = accepted-same (playQuestion v c (length out)) v _ (λ e. r (sym (question-call v c (length out) h) ∙ e))
+refused-same v p h r = accepted-same (playQuestion v (callOf p) (outLength p)) v _ (λ e. r (sym (question-call v (callOf p) (outLength p) h) ∙ e))
 
 question-13 : (v : Voice) (rest : ℕ) → keepsRules v ≡ false → ask (keepsRules v) 13 rest ≡ 0 → ⊥
 unfolding ask
@@ -206,6 +207,6 @@ question-13 v rest h e = let z : _≡_ {A = ℕ} 13 0 = rw h at e in omega arith
 -- LAW: a voice that does not keep the rules is returned as given by every call
 pub bad-voice-same : (v : Voice) (c : VoiceCall) → keepsRules v ≡ false → after v c ≡ v
 unfolding after played resetOf reseedOf playQuestion
-bad-voice-same v (playing c out) h = accepted-same _ v _ (question-13 v _ h)
+bad-voice-same v (playing p) h = accepted-same _ v _ (question-13 v _ h)
 bad-voice-same v resetting h = accepted-same _ v _ (question-13 v _ h)
 bad-voice-same v (reseeding n) h = accepted-same _ v _ (question-13 v _ h)

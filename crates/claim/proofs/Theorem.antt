@@ -19,7 +19,7 @@ use Rattle.voice.specs.Question.{accepted}
 use Rattle.making.specs.Making.{f32, voiceEntries, freshVoice, blankVoice, Making, makeQuestion, makeOf}
 use Rattle.voice.specs.declared.voice.Voice.{Voice}
 use Rattle.claim.specs.Machine.{machine, plainOf, supplied, machineFrom}
-use Rattle.claim.specs.Calls.{VoiceCall, run, fed, running, CallsF32}
+use Rattle.claim.specs.Calls.{VoiceCall, run, fed, running}
 use Rattle.claim.specs.Claim.{PhasesIn, Claim}
 use Rattle.voice.proofs.Loops.{both-true, every-at}
 use Rattle.claim.proofs.Folds.{getD-padded}
@@ -70,18 +70,18 @@ entriesIn m = entriesOf (decode (m .image))
 abbrev fresh : Making → Voice
 fresh m = freshVoice (m .kind) (entriesIn m) (m .rate) (m .centres)
 
-from-fresh : (m : Making) (calls : List VoiceCall) → CallsF32 calls → Accepted (m .kind) (entriesIn m) (m .rate) (m .centres) → keepsRules (fresh m) ≡ true → Says m calls (fresh m)
+from-fresh : (m : Making) (calls : List VoiceCall) → Accepted (m .kind) (entriesIn m) (m .rate) (m .centres) → keepsRules (fresh m) ≡ true → Says m calls (fresh m)
 unfolding freshVoice plainOf
-from-fresh m calls C A h =
+from-fresh m calls A h =
     let k = m .kind in
     let es = entriesIn m in
     let few = entries-few k es (m .rate) (m .centres) A in
     let most = bands-most (fresh m) h in
     let phases = phases-most (fresh m) h in
     let W = fresh-32 k es (m .rate) (m .centres) A in
-    let kept : keepsRules (run (fresh m) calls) ≡ true = rules-kept-run (fresh m) calls W C h in
+    let kept : keepsRules (run (fresh m) calls) ≡ true = rules-kept-run (fresh m) calls W h in
     let start = view-first k es (m .rate) (m .centres) few (A .as-many) most phases in
-    let moves = view-run k es (m .rate) (m .centres) few (A .as-many) most m calls firstState phases W C first-sized h in
+    let moves = view-run k es (m .rate) (m .centres) few (A .as-many) most m calls firstState phases W first-sized h in
     let same : running (run (fresh m) calls) ≡ machine (plainOf m) (fed m calls) =
     ap (λ y. y .state) moves ∙ ap (λ s. machineFrom (supplied (plainOf m) s) (fed m calls) .state) start in
     (phases-in (run (fresh m) calls) kept, same, kept)
@@ -92,5 +92,5 @@ accepted-of m e = make-accepted m e λ t n d A. subst (λ (p : Parsed CoeffTable
 -- THE CLAIM
 pub claim : Claim
 unfolding makeOf
-claim m calls C e =
-    subst (λ (w : Voice). Says m calls w) (sym (ap (λ q. accepted q (fresh m) blankVoice) e)) (from-fresh m calls C (accepted-of m e) (fresh-rules m e))
+claim m calls e =
+    subst (λ (w : Voice). Says m calls w) (sym (ap (λ q. accepted q (fresh m) blankVoice) e)) (from-fresh m calls (accepted-of m e) (fresh-rules m e))

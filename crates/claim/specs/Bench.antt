@@ -1,14 +1,15 @@
 -- Document 01's bench examples P1 to P11, as one list.
 use Prim.Native.Nat.{ℕ, _^_}
 use mathlib.Core.Path.{_≡_}
-use mathlib.Core.List.{List, [], _∷_}
+use mathlib.Core.List.{List, [], _∷_, _++_}
 use mathlib.Core.Bool.{false}
+use lib.ListN.{length}
 use lib.Ieee.{Float}
 use lib.Ieee.Exact.{HasValue}
 use Rattle.wire.specs.Parse.{refusal, ok, refused}
 use Rattle.table.specs.Decode.{decode}
 use Rattle.table.specs.Answer.{counts}
-use Rattle.table.specs.Rewrite.{rewritten}
+use Rattle.table.specs.Rewrite.{rewriting, rewritten}
 use Rattle.player.specs.declared.pitch.bracket.Bracket.{Bracket}
 use Rattle.float.specs.F32.{nearest}
 use Rattle.wave_table.specs.Wave.{quarterOf}
@@ -37,9 +38,13 @@ pub record Bench : Type 0 where
   pub p4 : counts (decode (0x4E ∷ 0x53 ∷ 0x43 ∷ 0x54 ∷ 1 ∷ 0 ∷ 0 ∷ 0 ∷ 0 ∷ 0 ∷ 0 ∷ 0 ∷ 0 ∷ 0 ∷ [])) ≡ refused (refusal 3 0 0)
   -- name length 1, byte FF: 5
   pub p5 : counts (decode (0x4D ∷ 0x53 ∷ 0x43 ∷ 0x54 ∷ 1 ∷ 0 ∷ 1 ∷ 0 ∷ 0 ∷ 0 ∷ 0xFF ∷ [])) ≡ refused (refusal 5 0 0)
-  -- P1 with version 0 rewrites to P1, whatever the target held
-  pub p6 : (a b c d e f g h i j k l m n : ℕ)
-      → rewritten (decode (emptyTable 0)) (a ∷ b ∷ c ∷ d ∷ e ∷ f ∷ g ∷ h ∷ i ∷ j ∷ k ∷ l ∷ m ∷ n ∷ []) ≡ emptyTable 1
+  -- P1 with version 0 rewrites to P1, whatever the target held: accepted, 0 entries, 14 bytes written. Bytes beyond stay.
+  pub p6 : (target beyond : List ℕ) → length target ≡ 14
+      → (rewriting (decode (emptyTable 0)) (length (target ++ beyond)) ≡ ok 0 14)
+      × (rewritten (decode (emptyTable 0)) (target ++ beyond) ≡ emptyTable 1 ++ beyond)
+  -- a target of 13 bytes: 17, and it stays
+  pub p6-short : (target : List ℕ) → length target ≡ 13
+      → (rewriting (decode (emptyTable 0)) (length target) ≡ refused (refusal 17 0 0)) × (rewritten (decode (emptyTable 0)) target ≡ target)
   -- T at 0, 1, 64, 128, 256
   pub p7 : (quarterOf 0 ≡ 0) × (quarterOf 1 ≡ 51471) × (quarterOf 64 ≡ 3210683) × (quarterOf 128 ≡ 5934197) × (quarterOf 256 ≡ 8388608)
   -- phase 0.75 gaining 0.5 is 0.25

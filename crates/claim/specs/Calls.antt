@@ -4,25 +4,50 @@ use mathlib.Core.List.{List, [], _∷_, _++_}
 use lib.ListN.{length, getD, take}
 use lib.Dec.{T}
 use lib.Ieee.{Float, nan, binary32, fits}
+use Rattle.voice.specs.declared.shape.Shape.{Shape}
 use Rattle.voice.specs.declared.voice.Voice.{Voice}
 use Rattle.voice.specs.Lists.{upTo}
 use Rattle.voice.specs.Voice.{memoryAt}
-use Rattle.voice.specs.Input.{Call, frequencyAt}
+use Rattle.voice.specs.Input.{Call, call, frequencyAt}
 use Rattle.voice.specs.Question.{callQuestion, accepted}
 use Rattle.voice.specs.Restart.{resetOf, reseedOf}
 use Rattle.player.specs.Play.{played}
 use Rattle.making.specs.Making.{Making}
 use Rattle.claim.specs.Machine.{Machine, Event, frequency, reset, seed}
 
--- what a voice is called with, all but the voice: of a play the arguments and the output slice, of a reseed the seed
+-- a slice of floats, as one is lent: each is an f32 value
+abbrev pub AllF32 : List Float → Type 0
+AllF32 l = (i : ℕ) → i < length l → T (fits binary32 (getD l i nan))
+
+pub record F32List : Type 0 where
+  pub list : List Float
+  pub are32 : AllF32 list
+
+-- what a play is called with, all but the voice: the block's numbers, and the slices of the frequency, of the four gains and of the output
+pub record PlayCall : Type 0 where
+  pub shape : Shape
+  pub freq : F32List
+  pub g0 : F32List
+  pub g1 : F32List
+  pub g2 : F32List
+  pub g3 : F32List
+  pub out : F32List
+
+abbrev pub callOf : PlayCall → Call
+callOf p = call (p .shape) (p .freq .list) (p .g0 .list) (p .g1 .list) (p .g2 .list) (p .g3 .list)
+
+abbrev pub outLength : PlayCall → ℕ
+outLength p = length (p .out .list)
+
+-- what a voice is called with: of a reseed it is the seed
 pub data VoiceCall : Type 0 where
-  playing : Call → List Float → VoiceCall
+  playing : PlayCall → VoiceCall
   resetting : VoiceCall
   reseeding : ℕ → VoiceCall
 
 -- the voice that a call returns, by the definitions that the contracts of play, reset and reseed cite
 unfoldable pub after : Voice → VoiceCall → Voice
-after v (playing c out) = played v c (length out) .voice
+after v (playing p) = played v (callOf p) (outLength p) .voice
 after v resetting = resetOf v .voice
 after v (reseeding n) = reseedOf v n .voice
 
@@ -36,7 +61,7 @@ run v (c ∷ cs) = run (after v c) cs
 -- The making stands by because no voice does: a kind of call that is judged by what the voice was made of has to ask the making.
 -- None of these three does.
 unfoldable pub fedBy : Making → VoiceCall → List Event
-fedBy m (playing c out) = accepted (callQuestion c (length out)) (upTo (λ i. frequency (frequencyAt c 0 i)) (c .shape .samples)) []
+fedBy m (playing p) = accepted (callQuestion (callOf p) (outLength p)) (upTo (λ i. frequency (frequencyAt (callOf p) 0 i)) (p .shape .samples)) []
 fedBy m resetting = reset ∷ []
 fedBy m (reseeding n) = seed n ∷ []
 
@@ -51,16 +76,3 @@ running v = record {
   memories = upTo (memoryAt (v .state .memories)) (v .set .j);
   noise = v .state .rng .state;
 }
-
--- the floats of a slice, and of a call's frequency input, are f32 values
-abbrev pub AllF32 : List Float → Type 0
-AllF32 l = (i : ℕ) → i < length l → T (fits binary32 (getD l i nan))
-
-abbrev pub CallF32 : VoiceCall → Type 0
-CallF32 (playing c out) = AllF32 (c .freq)
-CallF32 resetting = Unit
-CallF32 (reseeding n) = Unit
-
-unfoldable pub CallsF32 : List VoiceCall → Type 0
-CallsF32 [] = Unit
-CallsF32 (c ∷ cs) = CallF32 c × CallsF32 cs

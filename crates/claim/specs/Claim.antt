@@ -10,7 +10,7 @@ use Rattle.float.specs.F32.{nearest}
 use Rattle.voice.specs.Voice.{keepsRules}
 use Rattle.making.specs.Making.{Making, makeOf}
 use Rattle.claim.specs.Machine.{machine, plainOf}
-use Rattle.claim.specs.Calls.{VoiceCall, run, fed, running, CallsF32}
+use Rattle.claim.specs.Calls.{VoiceCall, run, fed, running}
 
 -- every phase is at least 0 and below 1
 abbrev pub PhasesIn : Voice → Type 0
@@ -18,14 +18,12 @@ PhasesIn v =
     (i : ℕ) → i < v .set .m
     → (le (nearest 0 1) (getD (v .state .phases) i nan) ≡ true) × (lt (getD (v .state .phases) i nan) (nearest 1 1) ≡ true)
 
--- For every kind, image, rate and centres whose making is accepted, and every list of calls from the voice made, refused ones included
--- (the frequencies being f32 values, as every slice of them is):
+-- For every kind, image, rate and centres whose making is accepted, and every list of calls from the voice made, refused ones included:
 -- every phase is at least 0 and below 1, the running state is the plain machine's, fed the list's resets, seeds and joined channel 0
 -- frequencies of the accepted plays, and question 13 is answered yes throughout.
 abbrev pub Claim : Type 0
 Claim =
     (m : Making) (calls : List VoiceCall)
-    → CallsF32 calls
     → makeOf m .refusal .number ≡ 0
     → let v = run (makeOf m .voice) calls in
     PhasesIn v × (running v ≡ machine (plainOf m) (fed m calls)) × (keepsRules v ≡ true)

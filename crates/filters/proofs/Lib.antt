@@ -8,3 +8,4 @@ pub mod BandAt
 pub mod Tests
 pub mod ZeroLaws
 pub mod RingLaws
+pub mod Examples

@@ -1,12 +1,13 @@
 -- Laws of an entry's coefficients, by the tests of the code. Assumes nothing.
 use Prim.Native.Nat.{ℕ, zero, suc, _+_, _-_, _≤_, _<_, max}
-use mathlib.Core.Path.{_≡_, refl}
+use mathlib.Core.Path.{_≡_, refl, sym, _∙_}
 use mathlib.Core.List.{List}
 use mathlib.Core.Bool.{Bool, true, false, _||_}
 use native.Mathlib.Omega.{arith}
 use native.Mathlib.Numerals.{add-one}
 use lib.Dec.{leb, eqb}
 use borrow.Author.Tests.{leb-true, lt-ltb, le-ltb, le-leb, lt-leb}
+use Rattle.wire.specs.Parse.{pick}
 use Rattle.table.specs.declared.entry.EntryView.{EntryView}
 use Rattle.table.specs.declared.error.CoeffTableCodecError.{CoeffTableCodecError}
 use Rattle.table.specs.Answer.{refusalOf}
@@ -45,38 +46,43 @@ size-yes s v h = rw (partials-are s v, le-leb (v .«m_partials») 32 h) refl
 pub size-no : (s : List ℕ) (v : EntryView) → 32 < v .«m_partials» → false ≡ sizesOk (entryAt s v)
 size-no s v h = rw (partials-are s v, lt-leb (v .«m_partials») 32 h) refl
 
--- the highest partial that is not 0, from the top down
-pub reach-hit : (e : PitchEntry) (c i : ℕ) → 0 < i → isNonzero (partialCoeff e c (i - 1)) ≡ true → reach e c i ≡ i
-unfolding reach
-reach-hit e c zero h t = absurd (omega arith)
-reach-hit e c (suc i) h t = let q : suc i - 1 ≡ i = omega arith in rw (rw q at t) refl
+-- LAW: a search from the top down, at i. It ends where the test holds at i - 1, and else goes on below.
+module _ {A : Type 0} (f : ℕ → A) (test : ℕ → Bool) (found : ℕ → A) (step : (i : ℕ) → f (suc i) ≡ pick (test i) (found (suc i)) (f i)) (n : ℕ) where
+  down-hit : (i : ℕ) → f i ≡ f n → 0 < i → test (i - 1) ≡ true → found i ≡ f n
+  down-hit zero e h t = absurd (omega arith)
+  down-hit (suc i) e h t = let q : suc i - 1 ≡ i = omega arith in rw (rw q at t) at (sym (step i) ∙ e)
 
-pub reach-miss : (e : PitchEntry) (c i : ℕ) → 0 < i → isNonzero (partialCoeff e c (i - 1)) ≡ false → reach e c i ≡ reach e c (i - 1)
-unfolding reach
-reach-miss e c zero h t = absurd (omega arith)
-reach-miss e c (suc i) h t = let q : suc i - 1 ≡ i = omega arith in rw (q, rw q at t) refl
+  down-miss : (i : ℕ) → f i ≡ f n → 0 < i → test (i - 1) ≡ false → f (i - 1) ≡ f n
+  down-miss zero e h t = absurd (omega arith)
+  down-miss (suc i) e h t = let q : suc i - 1 ≡ i = omega arith in rw q (rw (rw q at t) at (sym (step i) ∙ e))
+
+-- so the highest partial that is not 0 is found
+module _ (e : PitchEntry) (c n i : ℕ) (so : reach e c i ≡ reach e c n) (h : 0 < i) where
+  pub reach-hit : isNonzero (partialCoeff e c (i - 1)) ≡ true → i ≡ reach e c n
+  unfolding reach
+  reach-hit t = down-hit (reach e c) (λ i. isNonzero (partialCoeff e c i)) (λ i. i) (λ i. refl) n i so h t
+
+  pub reach-miss : isNonzero (partialCoeff e c (i - 1)) ≡ false → reach e c (i - 1) ≡ reach e c n
+  unfolding reach
+  reach-miss t = down-miss (reach e c) (λ i. isNonzero (partialCoeff e c i)) (λ i. i) (λ i. refl) n i so h t
+
+or-pick : (a b : Bool) → a || b ≡ pick a true b
+or-pick true b = refl
+or-pick false b = refl
+
+-- and a channel in which a band is not 0
+module _ (e : PitchEntry) (b n q : ℕ) (so : liveIn e b q ≡ liveIn e b n) (h : 0 < q) where
+  pub live-hit : isNonzero (noiseCoeff e (q - 1) b) ≡ true → true ≡ liveIn e b n
+  unfolding liveIn
+  live-hit t = down-hit (liveIn e b) (λ q. isNonzero (noiseCoeff e q b)) (λ q. true) (λ q. or-pick (isNonzero (noiseCoeff e q b)) (liveIn e b q)) n q so h t
+
+  pub live-miss : isNonzero (noiseCoeff e (q - 1) b) ≡ false → liveIn e b (q - 1) ≡ liveIn e b n
+  unfolding liveIn
+  live-miss t = down-miss (liveIn e b) (λ q. isNonzero (noiseCoeff e q b)) (λ q. true) (λ q. or-pick (isNonzero (noiseCoeff e q b)) (liveIn e b q)) n q so h t
 
 pub reach-next : (e : PitchEntry) (q : ℕ) → reachIn e (q + 1) ≡ max (reachIn e q) (reach e q (mPartials e))
 unfolding reachIn
 reach-next e q = rw add-one refl
-
-or-true : (b : Bool) → b || true ≡ true
-or-true true = refl
-or-true false = refl
-
-or-false : (b : Bool) → b || false ≡ b
-or-false true = refl
-or-false false = refl
-
-pub live-hit : (e : PitchEntry) (b q : ℕ) → 0 < q → isNonzero (noiseCoeff e (q - 1) b) ≡ true → liveIn e b q ≡ true
-unfolding liveIn
-live-hit e b zero h t = absurd (omega arith)
-live-hit e b (suc q) h t = let p : suc q - 1 ≡ q = omega arith in rw (rw p at t) (or-true (liveIn e b q))
-
-pub live-miss : (e : PitchEntry) (b q : ℕ) → 0 < q → isNonzero (noiseCoeff e (q - 1) b) ≡ false → liveIn e b q ≡ liveIn e b (q - 1)
-unfolding liveIn
-live-miss e b zero h t = absurd (omega arith)
-live-miss e b (suc q) h t = let p : suc q - 1 ≡ q = omega arith in rw (p, rw p at t) (or-false (liveIn e b q))
 
 -- a refused image's answer is none of "done"
 pub refused-number : (e : CoeffTableCodecError) → eqb (refusalOf e .number) 0 ≡ false

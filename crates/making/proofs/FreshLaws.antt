@@ -23,8 +23,8 @@ use Rattle.voice.specs.Lists.{steps, joinTo, every, padded}
 use Rattle.voice.specs.Voice.{pitchOk, stretchOk, phaseOk, pitchesAscend, bandsAscend, countsOk, entriesOk, liveOk, phasesOk, rulesOf, keepsRules, pitches, stretches, bandAt}
 use Rattle.filters.specs.Biquad.{noiseBand}
 use Rattle.filters.specs.Band.{zeroCoeffs}
-use Rattle.making.proofs.LayLaws.{length-mapped, getD-past, list-first, list-later, joinTo-at}
-use Rattle.making.specs.Making.{f32, all, sizesOk, valuesOk, keeps, insert, gathered, voiceEntries, channelCount, partialCoeff, isNonzero, presentFinite, mainlobeKey, noiseGainKey, reach, reachIn, phasesFor, phaseCount, isLive, liveBands, gainOf, coeffFloats, freshLists, freshVoice, Making, makeQuestion}
+use Rattle.making.proofs.PutLaws.{length-mapped, getD-past, list-first, list-later, joinTo-at}
+use Rattle.making.specs.Making.{f32, all, sizesOk, valuesOk, keeps, insert, gathered, voiceEntries, channelCount, partialCoeff, isNonzero, presentFinite, mainlobeKey, noiseGainKey, reach, reachIn, most, phasesFor, phaseCount, isLive, liveBands, gainOf, coeffFloats, freshLists, freshVoice, Making, makeQuestion}
 use Rattle.voice.proofs.Loops.{both-true, length-joinTo}
 use Rattle.making.proofs.SortLaws.{all-insert, all-gathered, bands-few}
 use Rattle.making.proofs.MakingLaws.{Accepted, live-short}
@@ -195,7 +195,7 @@ phases-for-few (Kind.Single c) n e = go (hasChannel e c)
 phases-for-few Kind.Blend n e = reach-in-few e n
 
 phases-few : (k : Kind) (n : ℕ) (es : List PitchEntry) → all sizesOk es ≡ true → phaseCount k n es ≤ 32
-unfolding all phaseCount
+unfolding all most
 phases-few k n [] h = omega arith
 phases-few k n (e ∷ es) h =
     let p = both-true (sizesOk e) (all sizesOk es) h in

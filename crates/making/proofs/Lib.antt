@@ -1,6 +1,6 @@
 pub mod ViewLaws
 pub mod MakeLists
-pub mod LayLaws
+pub mod PutLaws
 pub mod CoeffLaws
 pub mod GatherLaws
 pub mod PlaceLaws

@@ -1,18 +1,22 @@
 -- What stands at a place of a voice's flat arrays, by the entries' views. Assumes nothing.
-use Prim.Native.Nat.{ℕ, _*_, _/_, _%_, _≤_, _<_}
-use mathlib.Core.Path.{_≡_, ap}
-use mathlib.Core.List.{List}
+use Prim.Native.Nat.{ℕ, _+_, _*_, _/_, _≤_, _<_}
+use mathlib.Core.Path.{_≡_, ap, sym, _∙_}
+use mathlib.Core.List.{List, _++_}
 use native.Mathlib.Omega.{arith}
 use native.Mathlib.Nat.{div-lt-iff-lt-mul, le-div-iff-mul-le, mul-comm}
-use lib.ListN.{length, getD}
-use lib.Dec.{lit<}
+use lib.ListN.{length, getD, set, drop, replicate}
+use lib.Ieee.{Float}
 use Rattle.table.specs.declared.entry.EntryView.{EntryView}
 use Rattle.table.specs.declared.desk.Kind.{Kind}
+use Rattle.table.specs.Table.{PitchEntry}
 use Rattle.table.specs.View.{entryAt}
 use Rattle.float.specs.F32.{nearest}
-use Rattle.making.specs.Making.{partialCoeff, noiseCoeff, inSlot, slotChannel, ofEntry, partialPlace, noisePlace}
-use Rattle.making.specs.inner.Views.{viewed}
-use Rattle.making.specs.inner.Views.{noView}
+use Rattle.voice.specs.Limits.{maxBlended}
+use Rattle.voice.specs.Lists.{upTo}
+use Rattle.voice.proofs.Loops.{upTo-again}
+use Rattle.making.specs.Making.{ofEntry, slotPlace, placeOf}
+use Rattle.making.specs.inner.Views.{viewed, noView}
+use Rattle.making.proofs.MakeLists.{upTo-full}
 use Rattle.making.proofs.GatherLaws.{nth-view, nth-past}
 
 pub row-of : (x n w : ℕ) → 0 < w → x < w * n → x / w < n
@@ -21,21 +25,23 @@ row-of x n w p h = div-lt-iff-lt-mul p .1 (omega (arith, mul-comm w n))
 row-past : (x n w : ℕ) → 0 < w → w * n ≤ x → n ≤ x / w
 row-past x n w p h = le-div-iff-mul-le p .1 (omega (arith, mul-comm w n))
 
-module _ (s : List ℕ) (views : List EntryView) (n : ℕ) (l : n ≤ length views) (k : Kind) (m x : ℕ) where
-  pub partial-is : x < 128 * n → partialPlace k m (viewed s views n) x
-      ≡ inSlot (λ c. partialCoeff (entryAt s (getD views (x / 128) noView)) c (x % 32)) (slotChannel k m (x / 32 % 4))
-  unfolding partialPlace
-  partial-is h = ap (ofEntry (λ e. inSlot (λ c. partialCoeff e c (x % 32)) (slotChannel k m (x / 32 % 4)))) (nth-view s views n (x / 128) l (row-of x n 128 (lit< tt) h))
+-- rows of w columns, four to an entry: what a turn of the loop over the places writes, and that nothing stands past the last entry
+module _ (coeff : PitchEntry → ℕ → ℕ → Float) (w : ℕ) (pos : 0 < maxBlended * w) (s : List ℕ) (views : List EntryView) (n : ℕ) (l : n ≤ length views) (k : Kind) (m : ℕ) where
+  abbrev places : ℕ → Float
+  places x = placeOf coeff w k m (viewed s views n) x
 
-  pub partial-none : 128 * n ≤ x → partialPlace k m (viewed s views n) x ≡ nearest 0 1
-  unfolding partialPlace
-  partial-none h = ap (ofEntry (λ e. inSlot (λ c. partialCoeff e c (x % 32)) (slotChannel k m (x / 32 % 4)))) (nth-past s views n (x / 128) l (row-past x n 128 (lit< tt) h))
+  pub place-again : (x : ℕ) (l₀ out : List Float) (y : Float) → x < length l₀ → x < maxBlended * w * n
+      → y ≡ slotPlace coeff w k m (entryAt s (getD views (x / (maxBlended * w)) noView)) x
+      → out ≡ upTo places x ++ drop x l₀ → set out x y ≡ upTo places (x + 1) ++ drop (x + 1) l₀
+  unfolding placeOf
+  place-again x l₀ out y b h e so =
+      let p : places x ≡ y = ap (ofEntry (λ e. slotPlace coeff w k m e x)) (nth-view s views n (x / (maxBlended * w)) l (row-of x n (maxBlended * w) pos h)) ∙ sym e in
+      rw (← p) (upTo-again places x l₀ out b so)
 
-  pub noise-is : x < 64 * n → noisePlace k m (viewed s views n) x
-      ≡ inSlot (λ c. noiseCoeff (entryAt s (getD views (x / 64) noView)) c (x % 16)) (slotChannel k m (x / 16 % 4))
-  unfolding noisePlace
-  noise-is h = ap (ofEntry (λ e. inSlot (λ c. noiseCoeff e c (x % 16)) (slotChannel k m (x / 16 % 4)))) (nth-view s views n (x / 64) l (row-of x n 64 (lit< tt) h))
-
-  pub noise-none : 64 * n ≤ x → noisePlace k m (viewed s views n) x ≡ nearest 0 1
-  unfolding noisePlace
-  noise-none h = ap (ofEntry (λ e. inSlot (λ c. noiseCoeff e c (x % 16)) (slotChannel k m (x / 16 % 4)))) (nth-past s views n (x / 64) l (row-past x n 64 (lit< tt) h))
+  pub place-full : (x size : ℕ) (out : List Float) → x ≤ size → x ≡ maxBlended * w * n
+      → out ≡ upTo places x ++ drop x (replicate size (nearest 0 1)) → out ≡ upTo places size
+  unfolding placeOf
+  place-full x size out b e so =
+      upTo-full places (nearest 0 1) x size out b
+      (λ y h. ap (ofEntry (λ e. slotPlace coeff w k m e y)) (nth-past s views n (y / (maxBlended * w)) l (row-past y n (maxBlended * w) pos (omega arith))))
+      so

@@ -4,7 +4,7 @@ use mathlib.Core.Path.{_≡_, refl, ap, sym, _∙_}
 use mathlib.Core.List.{List, [], _∷_, map}
 use mathlib.Core.Bool.{Bool, true, false}
 use Rattle.wire.specs.Parse.{Refusal, refusal}
-use Rattle.making.specs.Making.{all, any, askValues, valuesOk, liveIn, liveAmong, phaseCount, phasesFor}
+use Rattle.making.specs.Making.{all, any, askValues, valuesOk, most}
 use Rattle.table.specs.declared.desk.Kind.{Kind}
 use native.Mathlib.Omega.{arith}
 use native.Mathlib.Numerals.{add-one}
@@ -13,6 +13,7 @@ use lib.Seq.{drop-cons, getD-take, length-take-le}
 use Rattle.table.specs.declared.entry.EntryView.{EntryView}
 use Rattle.table.specs.Table.{PitchEntry}
 use Rattle.table.specs.View.{entryAt}
+use Rattle.table.specs.Desk.{bandsOf, bandCount}
 use Rattle.making.specs.inner.Views.{noView}
 use Rattle.voice.proofs.Loops.{both-true}
 
@@ -29,79 +30,72 @@ module _ (s : List ℕ) (views : List EntryView) where
   pub rest-end : (i n : ℕ) → n ≤ i → rest s views i n ≡ []
   rest-end i n h = rw (drop-of-length-le (take n views) {i = i} (rw (length-take n views) (omega arith))) refl
 
--- one turn of a loop over the first n views
+-- one turn of a loop over the first n views: what was so of the rest from i on (r) is said by this entry and the rest after it
 module _ (s : List ℕ) (views : List EntryView) (i n : ℕ) (l : n ≤ length views) (h : i < n) where
   abbrev here : PitchEntry
   here = entryAt s (getD views i noView)
 
-  go : rest s views i n ≡ here ∷ rest s views (i + 1) n
-  go = rest-go s views i n noView l h
+  turn : {A : Type 0} (f : List PitchEntry → A) (r : A) → f (rest s views i n) ≡ r → f (here ∷ rest s views (i + 1) n) ≡ r
+  turn f r e = ap f (sym (rest-go s views i n noView l h)) ∙ e
 
-  pub all-go : (f : PitchEntry → Bool) → f here ≡ true → all f (rest s views i n) ≡ all f (rest s views (i + 1) n)
+  module _ (f : PitchEntry → Bool) (r : Bool) where
+    pub all-go : all f (rest s views i n) ≡ r → f here ≡ true → all f (rest s views (i + 1) n) ≡ r
+    unfolding all
+    all-go e t = rw t at (turn (all f) r e)
+
+    pub all-no : all f (rest s views i n) ≡ r → f here ≡ false → false ≡ r
+    unfolding all
+    all-no e t = rw t at (turn (all f) r e)
+
+    pub any-go : any f (rest s views i n) ≡ r → f here ≡ false → any f (rest s views (i + 1) n) ≡ r
+    unfolding any
+    any-go e t = rw t at (turn (any f) r e)
+
+    pub any-yes : any f (rest s views i n) ≡ r → f here ≡ true → true ≡ r
+    unfolding any
+    any-yes e t = rw t at (turn (any f) r e)
+
+  -- of all that pass, this one does and the rest do
+  pub all-both : (f : PitchEntry → Bool) → all f (rest s views i n) ≡ true → (f here ≡ true) × (all f (rest s views (i + 1) n) ≡ true)
   unfolding all
-  all-go f e = rw (go, e) refl
+  all-both f e = both-true (f here) (all f (rest s views (i + 1) n)) (turn (all f) true e)
 
-  pub all-no : (f : PitchEntry → Bool) → f here ≡ false → all f (rest s views i n) ≡ false
-  unfolding all
-  all-no f e = rw (go, e) refl
+  pub most-go : (count : PitchEntry → ℕ) (best r : ℕ) → max best (most count (rest s views i n)) ≡ r → max (max best (count here)) (most count (rest s views (i + 1) n)) ≡ r
+  unfolding most
+  most-go count best r e = let t = turn (λ es. max best (most count es)) r e in omega arith
 
-  pub all-here : (f : PitchEntry → Bool) → all f (rest s views i n) ≡ true → f here ≡ true
-  unfolding all
-  all-here f e = both-true (f here) (all f (rest s views (i + 1) n)) (ap (all f) (sym go) ∙ e) .0
+  module _ (rest-asked r : Refusal) where
+    pub values-go : askValues i (rest s views i n) rest-asked ≡ r → valuesOk here ≡ true → askValues (i + 1) (rest s views (i + 1) n) rest-asked ≡ r
+    unfolding askValues
+    values-go e t = rw t at (turn (λ es. askValues i es rest-asked) r e)
 
-  pub all-later : (f : PitchEntry → Bool) → all f (rest s views i n) ≡ true → all f (rest s views (i + 1) n) ≡ true
-  unfolding all
-  all-later f e = both-true (f here) (all f (rest s views (i + 1) n)) (ap (all f) (sym go) ∙ e) .1
+    pub values-no : askValues i (rest s views i n) rest-asked ≡ r → valuesOk here ≡ false → refusal 9 i 0 ≡ r
+    unfolding askValues
+    values-no e t = rw t at (turn (λ es. askValues i es rest-asked) r e)
 
-  pub any-go : (f : PitchEntry → Bool) → f here ≡ false → any f (rest s views i n) ≡ any f (rest s views (i + 1) n)
-  unfolding any
-  any-go f e = rw (go, e) refl
-
-  pub any-yes : (f : PitchEntry → Bool) → f here ≡ true → any f (rest s views i n) ≡ true
-  unfolding any
-  any-yes f e = rw (go, e) refl
-
-  pub values-go : (r : Refusal) → valuesOk here ≡ true → askValues i (rest s views i n) r ≡ askValues (i + 1) (rest s views (i + 1) n) r
-  unfolding askValues
-  values-go r e = rw (go, e) refl
-
-  pub values-no : (r : Refusal) → valuesOk here ≡ false → askValues i (rest s views i n) r ≡ refusal 9 i 0
-  unfolding askValues
-  values-no r e = rw (go, e) refl
-
-  pub live-go : (m b : ℕ) → liveIn here b m ≡ false → liveAmong (rest s views i n) m b ≡ liveAmong (rest s views (i + 1) n) m b
-  unfolding liveAmong
-  live-go m b e = rw (go, e) refl
-
-  pub live-yes : (m b : ℕ) → liveIn here b m ≡ true → liveAmong (rest s views i n) m b ≡ true
-  unfolding liveAmong
-  live-yes m b e = rw (go, e) refl
-
-  pub phases-go : (k : Kind) (m : ℕ) → phaseCount k m (rest s views i n) ≡ max (phasesFor k m here) (phaseCount k m (rest s views (i + 1) n))
-  unfolding phaseCount
-  phases-go k m = rw go refl
-
--- and its end
+-- and its end, where nothing is left
 module _ (s : List ℕ) (views : List EntryView) (i n : ℕ) (h : n ≤ i) where
-  done : rest s views i n ≡ []
-  done = rest-end s views i n h
+  done : {A : Type 0} (f : List PitchEntry → A) (r : A) → f (rest s views i n) ≡ r → f [] ≡ r
+  done f r e = ap f (sym (rest-end s views i n h)) ∙ e
 
-  pub all-end : (f : PitchEntry → Bool) → all f (rest s views i n) ≡ true
+  pub all-end : (f : PitchEntry → Bool) (r : Bool) → all f (rest s views i n) ≡ r → true ≡ r
   unfolding all
-  all-end f = rw done refl
+  all-end f r e = done (all f) r e
 
-  pub any-end : (f : PitchEntry → Bool) → any f (rest s views i n) ≡ false
+  pub any-end : (f : PitchEntry → Bool) (r : Bool) → any f (rest s views i n) ≡ r → false ≡ r
   unfolding any
-  any-end f = rw done refl
+  any-end f r e = done (any f) r e
 
-  pub values-end : (r : Refusal) → askValues i (rest s views i n) r ≡ r
+  pub most-end : (count : PitchEntry → ℕ) (best r : ℕ) → max best (most count (rest s views i n)) ≡ r → best ≡ r
+  unfolding most
+  most-end count best r e = let t = done (λ es. max best (most count es)) r e in omega arith
+
+  pub values-end : (rest-asked r : Refusal) → askValues i (rest s views i n) rest-asked ≡ r → rest-asked ≡ r
   unfolding askValues
-  values-end r = rw done refl
+  values-end rest-asked r e = done (λ es. askValues i es rest-asked) r e
 
-  pub live-end : (m b : ℕ) → liveAmong (rest s views i n) m b ≡ false
-  unfolding liveAmong
-  live-end m b = rw done refl
-
-  pub phases-end : (k : Kind) (m : ℕ) → phaseCount k m (rest s views i n) ≡ 0
-  unfolding phaseCount
-  phases-end k m = rw done refl
+-- the desk's band count is such a count
+pub bands-most : (k : Kind) (es : List PitchEntry) → most (bandsOf k) es ≡ bandCount k es
+unfolding most bandCount
+bands-most k [] = refl
+bands-most k (e ∷ es) = ap (max (bandsOf k e)) (bands-most k es)

@@ -1,5 +1,5 @@
 -- Making a voice: what a table's entries become, and questions 8 to 12. (1 to 7 are the table's.)
-use Prim.Native.Nat.{ℕ, zero, suc, _+_, _/_, _%_, max, min}
+use Prim.Native.Nat.{ℕ, zero, suc, _+_, _*_, _/_, _%_, max, min}
 use mathlib.Core.List.{List, [], _∷_, _++_, map}
 use mathlib.Core.Bool.{Bool, true, false, _&&_, _||_}
 use mathlib.Core.Option.{Option, some, none}
@@ -25,6 +25,15 @@ use Rattle.voice.specs.declared.voice.Voice.{Voice}
 -- a table's 32 bits as a float
 abbrev pub f32 : ℕ → Float
 f32 b = ofBits binary32 b
+
+-- all of a list pass a test, or any of it
+unfoldable pub all : {A : Type 0} → (A → Bool) → List A → Bool
+all f [] = true
+all f (a ∷ l) = f a && all f l
+
+unfoldable pub any : {A : Type 0} → (A → Bool) → List A → Bool
+any f [] = false
+any f (a ∷ l) = f a || any f l
 
 -- ---- the entries of a voice
 -- a single voice of channel c keeps the entries that have channel c; a blend keeps all
@@ -56,10 +65,13 @@ abbrev pub isNonzero : Float → Bool
 isNonzero x = ne x (nearest 0 1)
 
 -- ---- counts
--- the largest channel count
-unfoldable pub mostChannels : List PitchEntry → ℕ
-mostChannels [] = 0
-mostChannels (e ∷ es) = max (e .kChannels) (mostChannels es)
+-- the largest count of any entry, 0 where there is none
+unfoldable pub most : (PitchEntry → ℕ) → List PitchEntry → ℕ
+most count [] = 0
+most count (e ∷ es) = max (count e) (most count es)
+
+abbrev pub mostChannels : List PitchEntry → ℕ
+mostChannels es = most (λ e. e .kChannels) es
 
 -- the channels that a voice sounds: one of a single voice; of a blend all, at most 4
 abbrev pub channelCount : Kind → List PitchEntry → ℕ
@@ -81,19 +93,17 @@ abbrev pub phasesFor : Kind → ℕ → PitchEntry → ℕ
 phasesFor (Kind.Single c) n e = pick (hasChannel e c) (mPartials e) 0
 phasesFor Kind.Blend n e = reachIn e n
 
-unfoldable pub phaseCount : Kind → ℕ → List PitchEntry → ℕ
-phaseCount k n [] = 0
-phaseCount k n (e ∷ es) = max (phasesFor k n e) (phaseCount k n es)
+abbrev pub phaseCount : Kind → ℕ → List PitchEntry → ℕ
+phaseCount k n es = most (phasesFor k n) es
 
 -- ---- live bands
 -- whether band b is not 0 in one of the first n channels of an entry, and in one of the entries
 unfoldable pub liveIn : PitchEntry → ℕ → ℕ → Bool
 liveIn e b zero = false
-liveIn e b (suc n) = liveIn e b n || isNonzero (noiseCoeff e n b)
+liveIn e b (suc n) = isNonzero (noiseCoeff e n b) || liveIn e b n
 
-unfoldable pub liveAmong : List PitchEntry → ℕ → ℕ → Bool
-liveAmong [] n b = false
-liveAmong (e ∷ es) n b = liveIn e b n || liveAmong es n b
+abbrev pub liveAmong : List PitchEntry → ℕ → ℕ → Bool
+liveAmong es n b = any (λ e. liveIn e b n) es
 
 -- all bands of a single voice are live
 abbrev pub isLive : Kind → List PitchEntry → ℕ → Bool
@@ -138,12 +148,19 @@ abbrev pub ofEntry : (PitchEntry → Float) → Option PitchEntry → Float
 ofEntry f (some e) = f e
 ofEntry f none = nearest 0 1
 
--- what stands at a place of the flat arrays: entry × 128 + slot × 32 + partial, and entry × 64 + slot × 16 + band
-unfoldable pub partialPlace : Kind → ℕ → List PitchEntry → ℕ → Float
-partialPlace k n vs x = ofEntry (λ e. inSlot (λ c. partialCoeff e c (x % 32)) (slotChannel k n (x / 32 % 4))) (nth vs (x / 128))
+-- what stands at place x of a flat array of coefficients: an entry after the other, of each four slots, of each w columns
+abbrev pub slotPlace : (PitchEntry → ℕ → ℕ → Float) → ℕ → Kind → ℕ → PitchEntry → ℕ → Float
+slotPlace coeff w k n e x = inSlot (λ c. coeff e c (x % w)) (slotChannel k n (x / w % maxBlended))
 
-unfoldable pub noisePlace : Kind → ℕ → List PitchEntry → ℕ → Float
-noisePlace k n vs x = ofEntry (λ e. inSlot (λ c. noiseCoeff e c (x % 16)) (slotChannel k n (x / 16 % 4))) (nth vs (x / 64))
+unfoldable pub placeOf : (PitchEntry → ℕ → ℕ → Float) → ℕ → Kind → ℕ → List PitchEntry → ℕ → Float
+placeOf coeff w k n vs x = ofEntry (λ e. slotPlace coeff w k n e x) (nth vs (x / (maxBlended * w)))
+
+-- entry × 128 + slot × 32 + partial, and entry × 64 + slot × 16 + band
+abbrev pub partialPlace : Kind → ℕ → List PitchEntry → ℕ → Float
+partialPlace k n vs x = placeOf partialCoeff maxPartials k n vs x
+
+abbrev pub noisePlace : Kind → ℕ → List PitchEntry → ℕ → Float
+noisePlace k n vs x = placeOf noiseCoeff maxBands k n vs x
 
 abbrev pub kindNumber : Kind → ℕ
 kindNumber (Kind.Single c) = 0
@@ -214,15 +231,6 @@ blankVoice =
     (stateOf (replicate maxPartials (nearest 0 1)) noMemories (record { state = 0 }))
 
 -- ---- questions 8 to 12
--- all of a list pass a test
-unfoldable pub all : {A : Type 0} → (A → Bool) → List A → Bool
-all f [] = true
-all f (a ∷ l) = f a && all f l
-
-unfoldable pub any : {A : Type 0} → (A → Bool) → List A → Bool
-any f [] = false
-any f (a ∷ l) = f a || any f l
-
 -- 8: at most 16 entries, M 32, j 16 in each?
 abbrev pub sizesOk : PitchEntry → Bool
 sizesOk e = leb (mPartials e) maxPartials && leb (e .jNoise) maxBands

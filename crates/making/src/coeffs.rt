@@ -3,7 +3,7 @@ ghost use mathlib.Core.Path.{_≡_};
 ghost use Rattle.table.specs.View.{entryAt};
 ghost use Prim.Native.Nat.{_≤_, _<_};
 ghost use Rattle.table.specs.Answer.{foundBits};
-ghost use Rattle.making.specs.Making.{partialCoeff, noiseCoeff, gainOr1, gainOf, mainlobeKey, noiseGainKey};
+ghost use Rattle.making.specs.Making.{partialCoeff, noiseCoeff, gainOr1, gainOf};
 ghost use Rattle.voice.specs.Limits.{maxPartials, maxBands};
 use table::Found;
 use table::entry::EntryView;
@@ -41,14 +41,8 @@ fn gain_or_1(f: Found) -> f32
     }
 }
 
-pub fn mainlobe_gain(s: &[u8], v: EntryView) -> f32
-    ensures { λ r. ⌜ r ≡ gainOf mainlobeKey (entryAt (now (s .entry)) v) ⌝ }
+pub fn gain_of(s: &[u8], v: EntryView, key: &[u8]) -> f32
+    ensures { λ r. ⌜ r ≡ gainOf (now (key .entry)) (entryAt (now (s .entry)) v) ⌝ }
 {
-    gain_or_1(metadata_value(s, v, b"mainlobe_gain"))
-}
-
-pub fn noise_gain(s: &[u8], v: EntryView) -> f32
-    ensures { λ r. ⌜ r ≡ gainOf noiseGainKey (entryAt (now (s .entry)) v) ⌝ }
-{
-    gain_or_1(metadata_value(s, v, b"noise_gain"))
+    gain_or_1(metadata_value(s, v, key))
 }

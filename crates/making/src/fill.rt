@@ -8,9 +8,8 @@ ghost use Rattle.making.specs.Making.{all, sizesOk, partialCoeff, noiseC
 ghost use Rattle.making.specs.inner.Views.{viewed};
 ghost use Rattle.making.specs.inner.Columns.{columnsOf, slotOption};
 ghost use Rattle.voice.specs.Limits.{maxEntries, maxPartials};
-use crate::coeffs::mainlobe_gain;
+use crate::coeffs::gain_of;
 use crate::coeffs::noise_coeff;
-use crate::coeffs::noise_gain;
 use crate::coeffs::partial_coeff;
 use table::desk::Kind;
 use table::entry::EntryView;
@@ -35,8 +34,8 @@ pub fn columns_of(s: &[u8], views: [EntryView; 16], count: usize) -> Columns
         let v = views[i];
         pitches[i] = float::from_bits(v.f0_hz);
         stretches[i] = float::from_bits(v.stretch);
-        mainlobes[i] = mainlobe_gain(s, v);
-        noises[i] = noise_gain(s, v);
+        mainlobes[i] = gain_of(s, v, b"mainlobe_gain");
+        noises[i] = gain_of(s, v, b"noise_gain");
         i += 1;
     }
     Columns {

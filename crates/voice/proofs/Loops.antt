@@ -15,12 +15,6 @@ use borrow.Author.Tests.{eqb-true}
 use lib.Dec.{leb, eqb}
 
 module _ {A : Type 0} (f : ℕ → A → A) (d : A) where
-  pub length-mapTo : (k n : ℕ) (l : List A) → length (mapTo f k n l) ≡ length l
-  unfolding mapTo
-  length-mapTo k zero l = refl
-  length-mapTo k (suc n) [] = refl
-  length-mapTo k (suc n) (x ∷ l) = ap suc (length-mapTo (suc k) n l)
-
   pub getD-mapTo : (k n : ℕ) (l : List A) → getD (mapTo f k n l) n d ≡ getD l n d
   unfolding mapTo
   getD-mapTo k zero l = refl
@@ -85,6 +79,19 @@ pub at-every : (test : ℕ → Bool) (n : ℕ) → ((i : ℕ) → i < n → test
 unfolding steps
 at-every test zero h = refl
 at-every test (suc n) h = rw (at-every test n (λ i l. h i (omega arith)), h n (omega arith))
+
+-- a loop that tests every index: before its first turn, after one more, and after the last
+module _ (test : ℕ → Bool) where
+  pub every-first : true ≡ every test 0
+  unfolding steps
+  every-first = refl
+
+  pub every-again : (ok here r : Bool) (i : ℕ) → ok ≡ every test i → here ≡ test i → r ≡ ok && here → r ≡ every test (i + 1)
+  unfolding steps
+  every-again ok here r i e h q = rw (q, e, h, add-one i)
+
+  pub every-last : (ok : Bool) (i n : ℕ) → i ≡ n → ok ≡ every test i → ok ≡ every test n
+  every-last ok i n q e = rw (e, q)
 
 -- ---- rows
 -- row a of k rows of n, element i

@@ -17,34 +17,53 @@ use Rattle.voice.specs.declared.voice.Setting.{Setting}
 use Rattle.voice.specs.declared.voice.State.{State}
 use Rattle.voice.specs.declared.voice.Voice.{Voice}
 
--- ---- the short lists: 16 places each, one after the other in one
--- list n of them
+-- ---- the short lists: 16 places each, one after the other in one. Which is which:
+abbrev pub pitchesList : ℕ
+pitchesList = 0
+
+abbrev pub stretchesList : ℕ
+stretchesList = 1
+
+abbrev pub mainlobesList : ℕ
+mainlobesList = 2
+
+abbrev pub noiseGainsList : ℕ
+noiseGainsList = 3
+
+abbrev pub compensationsList : ℕ
+compensationsList = 9
+
+-- where the first band's coefficients stand: those of the bands, five a band, take the places of lists 4 to 8
+abbrev pub bandsAt : ℕ
+bandsAt = 64
+
+-- list n by itself
 unfoldable pub listAt : List Float → ℕ → List Float
 listAt xs n = upTo (λ i. getD xs (n * 16 + i) nan) 16
 
 abbrev pub pitches : Voice → List Float
-pitches v = listAt (v .lists) 0
+pitches v = listAt (v .lists) pitchesList
 
 abbrev pub stretches : Voice → List Float
-stretches v = listAt (v .lists) 1
+stretches v = listAt (v .lists) stretchesList
 
 abbrev pub mainlobes : Voice → List Float
-mainlobes v = listAt (v .lists) 2
+mainlobes v = listAt (v .lists) mainlobesList
 
 abbrev pub noiseGains : Voice → List Float
-noiseGains v = listAt (v .lists) 3
+noiseGains v = listAt (v .lists) noiseGainsList
 
 abbrev pub compensations : Voice → List Float
-compensations v = listAt (v .lists) 9
+compensations v = listAt (v .lists) compensationsList
 
--- the five coefficients of band b: the bands stand after the first four lists
+-- the five coefficients of band b
 abbrev pub bandAt : List Float → ℕ → BiquadCoeffs
 bandAt xs b = record {
-  b0 = getD xs (64 + b * 5) nan;
-  b1 = getD xs (64 + b * 5 + 1) nan;
-  b2 = getD xs (64 + b * 5 + 2) nan;
-  a1 = getD xs (64 + b * 5 + 3) nan;
-  a2 = getD xs (64 + b * 5 + 4) nan;
+  b0 = getD xs (bandsAt + b * 5) nan;
+  b1 = getD xs (bandsAt + b * 5 + 1) nan;
+  b2 = getD xs (bandsAt + b * 5 + 2) nan;
+  a1 = getD xs (bandsAt + b * 5 + 3) nan;
+  a2 = getD xs (bandsAt + b * 5 + 4) nan;
 }
 
 -- ---- the memories of the running state, two a band: those of band b, and others in their place
@@ -83,8 +102,8 @@ countsOk s =
 -- of the first n entries: pitches finite, above 0, at most 20,000, ascending with equal ones allowed; stretches 0 to 4
 unfoldable pub entriesOk : List Float → ℕ → Bool
 entriesOk xs n =
-    every (λ i. pitchOk (getD (listAt xs 0) i nan)) n
-    && (pitchesAscend (listAt xs 0) n && every (λ i. stretchOk (getD (listAt xs 1) i nan)) n)
+    every (λ i. pitchOk (getD (listAt xs pitchesList) i nan)) n
+    && (pitchesAscend (listAt xs pitchesList) n && every (λ i. stretchOk (getD (listAt xs stretchesList) i nan)) n)
 
 -- live bands ascending, each below j
 unfoldable pub liveOk : Setting → Bool

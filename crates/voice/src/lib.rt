@@ -18,6 +18,7 @@ pub use limits::MAX_ENTRIES;
 pub use limits::MAX_HZ;
 pub use limits::MAX_PARTIALS;
 pub use limits::MAX_SAMPLES;
+pub use lists::BANDS_AT;
 pub use lists::COMPENSATIONS;
 pub use lists::MAINLOBE_GAINS;
 pub use lists::NOISE_GAINS;

@@ -2,7 +2,7 @@
 ghost use mathlib.Core.Path.{_≡_};
 ghost use Rattle.voice.specs.Voice.{listAt};
 
-// Which is which. The bands' coefficients, five a band, take the place of lists 4 to 8.
+// Which is which.
 pub const PITCHES: usize = 0;
 
 pub const STRETCHES: usize = 1;
@@ -12,6 +12,9 @@ pub const MAINLOBE_GAINS: usize = 2;
 pub const NOISE_GAINS: usize = 3;
 
 pub const COMPENSATIONS: usize = 9;
+
+// Where the first band's coefficients stand. Those of the bands, five a band, take the places of lists 4 to 8.
+pub const BANDS_AT: usize = 64;
 
 // List n by itself; where there is none, no number in any place.
 pub fn list_of(lists: &[f32; 160], n: usize) -> [f32; 16]

@@ -1,3 +1,4 @@
 pub mod Every
 pub mod Entries
 pub mod Alike
+pub mod Examples

@@ -4,7 +4,7 @@ use native.Mathlib.Omega.{arith}
 use lib.ListN.{length}
 use Rattle.making.specs.inner.Views.{viewed}
 use Rattle.making.specs.Making.{phaseCount}
-use Rattle.making.proofs.ViewLaws.{rest, phases-go, phases-end}
+use Rattle.making.proofs.ViewLaws.{rest, most-go, most-end}
 use borrow.Author.Needs.{needs}
 use Rattle.making.proofs.counts.phase_count.Statement.{statement}
 use Rattle.making.proofs.counts.phase_count.Tie as tie
@@ -20,30 +20,6 @@ loop-holds : tie.Need-loop-holds Inv-loop μ-loop
 loop-holds c =
     (omega arith, omega arith)
 
--- src/counts.rt:95:17
-mul-v : tie.Need-mul-v Inv-loop μ-loop
-mul-v c = search needs
-
--- src/counts.rt:95:17
-array-copy-out-v : tie.Need-array-copy-out-v Inv-loop μ-loop
-array-copy-out-v c = search needs
-
--- src/counts.rt:96:29
-phases-for-requires : tie.Need-phases-for-requires Inv-loop μ-loop
-phases-for-requires c κs = search needs
-
--- src/counts.rt:96:9
-larger-requires : tie.Need-larger-requires Inv-loop μ-loop
-larger-requires c κs = search needs
-
--- src/counts.rt:97:9
-add-i : tie.Need-add-i Inv-loop μ-loop
-add-i c = search needs
-
--- src/counts.rt:94:5
-loop-less : tie.Need-loop-less Inv-loop μ-loop
-loop-less c = search needs
-
 -- src/counts.rt:94:5
 loop-again : tie.Need-loop-again Inv-loop μ-loop
 loop-again c =
@@ -51,14 +27,15 @@ loop-again c =
     let b3 = b1 .before .before in
     let b4 = b3 .before in
     let b6 = b4 .before .before in
-    let len : length (b6 .args .t2) ≡ 16 = search needs in let p = b4 .loop .inv .1 in let q = phases-go (b6 .args .s .now) (b6 .args .t2) (b4 .loop .i) (b6 .args .count) (omega arith) (b3 .loop-test .taken) (b6 .args .kind) (b6 .args .n) in (omega arith, omega (arith, c .larger .ensures, b1 .phases-for .ensures))
+    let len : length (b6 .args .t2) ≡ 16 = search needs in
+    (omega arith, rw (c .larger .ensures, b1 .phases-for .ensures) (most-go (b6 .args .s .now) (b6 .args .t2) (b4 .loop .i) (b6 .args .count) (omega arith) (b3 .loop-test .taken) _ (b4 .loop .best) _ (b4 .loop .inv .1)))
 
 -- src/counts.rt:88:1
 returns : tie.Need-returns Inv-loop μ-loop
 returns c =
     let b1 = c .before in
     let b3 = b1 .before .before in
-    let p = b1 .loop .inv .1 in let q = phases-end (b3 .args .s .now) (b3 .args .t2) (b1 .loop .i) (b3 .args .count) (c .loop-test .left) (b3 .args .kind) (b3 .args .n) in omega arith
+    most-end (b3 .args .s .now) (b3 .args .t2) (b1 .loop .i) (b3 .args .count) (c .loop-test .left) _ (b1 .loop .best) _ (b1 .loop .inv .1)
 
 pub phase-count-spec : {M : Type 1} → statement M
 phase-count-spec =
@@ -67,11 +44,11 @@ phase-count-spec =
     Inv-loop
     μ-loop
     loop-holds
-    mul-v
-    array-copy-out-v
-    phases-for-requires
-    larger-requires
-    add-i
-    loop-less
+    (λ c. search needs)
+    (λ c. search needs)
+    (λ c κs. search needs)
+    (λ c κs. search needs)
+    (λ c. search needs)
+    (λ c. search needs)
     loop-again
     returns)

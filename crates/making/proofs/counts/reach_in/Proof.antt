@@ -20,22 +20,6 @@ unfolding reachIn
 loop-holds c =
     (omega arith, refl)
 
--- src/counts.rt:67:29
-reach-of-requires : tie.Need-reach-of-requires Inv-loop μ-loop
-reach-of-requires c κs = search needs
-
--- src/counts.rt:67:9
-larger-requires : tie.Need-larger-requires Inv-loop μ-loop
-larger-requires c κs = search needs
-
--- src/counts.rt:68:9
-add-q : tie.Need-add-q Inv-loop μ-loop
-add-q c = search needs
-
--- src/counts.rt:66:5
-loop-less : tie.Need-loop-less Inv-loop μ-loop
-loop-less c = search needs
-
 -- src/counts.rt:66:5
 loop-again : tie.Need-loop-again Inv-loop μ-loop
 loop-again c =
@@ -57,9 +41,9 @@ reach-in-spec =
     Inv-loop
     μ-loop
     loop-holds
-    reach-of-requires
-    larger-requires
-    add-q
-    loop-less
+    (λ c κs. search needs)
+    (λ c κs. search needs)
+    (λ c. search needs)
+    (λ c. search needs)
     loop-again
     returns)

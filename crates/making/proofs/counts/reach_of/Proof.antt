@@ -20,14 +20,6 @@ loop-holds : tie.Need-loop-holds Inv-loop μ-loop
 loop-holds c =
     (omega arith, refl)
 
--- src/counts.rt:52:35
-sub-partial-coeff : tie.Need-sub-partial-coeff Inv-loop μ-loop
-sub-partial-coeff c = search needs
-
--- src/counts.rt:52:12
-partial-coeff-requires : tie.Need-partial-coeff-requires Inv-loop μ-loop
-partial-coeff-requires c κs = search needs
-
 -- src/counts.rt:53:13
 returns : tie.Need-returns Inv-loop μ-loop
 unfolding ofBits round
@@ -35,15 +27,7 @@ returns c =
     let b1 = c .before in
     let b2 = b1 .before in
     let b3 = b2 .before in
-    sym (sym (b3 .loop .inv .1) ∙ reach-hit _ _ _ (b2 .loop-test .taken) (ap isNonzero (sym (b1 .partial-coeff .ensures)) ∙ c .if1 .taken))
-
--- src/counts.rt:55:9
-sub-i : tie.Need-sub-i Inv-loop μ-loop
-sub-i c = search needs
-
--- src/counts.rt:51:5
-loop-less : tie.Need-loop-less Inv-loop μ-loop
-loop-less c = search needs
+    reach-hit _ _ _ _ (b3 .loop .inv .1) (b2 .loop-test .taken) (ap isNonzero (sym (b1 .partial-coeff .ensures)) ∙ c .if1 .taken)
 
 -- src/counts.rt:51:5
 loop-again : tie.Need-loop-again Inv-loop μ-loop
@@ -52,14 +36,14 @@ loop-again c =
     let b1 = c .before in
     let b2 = b1 .before in
     let b3 = b2 .before in
-    (omega arith, sym (reach-miss _ _ _ (b2 .loop-test .taken) (ap isNonzero (sym (b1 .partial-coeff .ensures)) ∙ c .if1 .left)) ∙ b3 .loop .inv .1)
+    (omega arith, reach-miss _ _ _ _ (b3 .loop .inv .1) (b2 .loop-test .taken) (ap isNonzero (sym (b1 .partial-coeff .ensures)) ∙ c .if1 .left))
 
 -- src/counts.rt:47:1
 returns-2 : tie.Need-returns-2 Inv-loop μ-loop
 unfolding reach
 returns-2 c =
     let b1 = c .before in
-    sym (sym (b1 .loop .inv .1) ∙ (let z : b1 .loop .i ≡ 0 = omega arith in rw z refl))
+    let z : b1 .loop .i ≡ 0 = omega arith in rw z at (b1 .loop .inv .1)
 
 pub reach-of-spec : {M : Type 1} → statement M
 reach-of-spec =
@@ -68,10 +52,10 @@ reach-of-spec =
     Inv-loop
     μ-loop
     loop-holds
-    sub-partial-coeff
-    partial-coeff-requires
+    (λ c. search needs)
+    (λ c κs. search needs)
     returns
-    sub-i
-    loop-less
+    (λ c. search needs)
+    (λ c. search needs)
     loop-again
     returns-2)

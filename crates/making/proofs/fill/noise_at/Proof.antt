@@ -4,22 +4,6 @@ use borrow.Author.Needs.{needs}
 use Rattle.making.proofs.fill.noise_at.Statement.{statement}
 use Rattle.making.proofs.fill.noise_at.Tie as tie
 
--- src/fill.rt:105:11
-slot-channel-requires : tie.Need-slot-channel-requires
-slot-channel-requires c κs = search needs
-
--- src/fill.rt:106:23
-enum-known-c : tie.Need-enum-known-c
-enum-known-c c = search needs
-
--- src/fill.rt:106:29
-noise-coeff-requires : tie.Need-noise-coeff-requires
-noise-coeff-requires c κs = search needs
-
--- src/fill.rt:107:24
-enum-told : tie.Need-enum-told
-enum-told c = search needs
-
 -- src/fill.rt:101:1
 returns : tie.Need-returns
 returns c =
@@ -37,4 +21,10 @@ returns-2 c =
 pub noise-at-spec : {M : Type 1} → statement M
 noise-at-spec =
     tie.close
-    (tie.spec slot-channel-requires enum-known-c noise-coeff-requires enum-told returns returns-2)
+    (tie.spec
+    (λ c κs. search needs)
+    (λ c. search needs)
+    (λ c κs. search needs)
+    (λ c. search needs)
+    returns
+    returns-2)

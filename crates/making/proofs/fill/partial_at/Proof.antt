@@ -4,22 +4,6 @@ use borrow.Author.Needs.{needs}
 use Rattle.making.proofs.fill.partial_at.Statement.{statement}
 use Rattle.making.proofs.fill.partial_at.Tie as tie
 
--- src/fill.rt:79:11
-slot-channel-requires : tie.Need-slot-channel-requires
-slot-channel-requires c κs = search needs
-
--- src/fill.rt:80:23
-enum-known-c : tie.Need-enum-known-c
-enum-known-c c = search needs
-
--- src/fill.rt:80:29
-partial-coeff-requires : tie.Need-partial-coeff-requires
-partial-coeff-requires c κs = search needs
-
--- src/fill.rt:81:24
-enum-told : tie.Need-enum-told
-enum-told c = search needs
-
 -- src/fill.rt:76:1
 returns : tie.Need-returns
 returns c =
@@ -38,9 +22,9 @@ pub partial-at-spec : {M : Type 1} → statement M
 partial-at-spec =
     tie.close
     (tie.spec
-    slot-channel-requires
-    enum-known-c
-    partial-coeff-requires
-    enum-told
+    (λ c κs. search needs)
+    (λ c. search needs)
+    (λ c κs. search needs)
+    (λ c. search needs)
     returns
     returns-2)

@@ -22,18 +22,6 @@ loop-holds : tie.Need-loop-holds Inv-loop μ-loop
 loop-holds c =
     (omega arith, λ s. refl)
 
--- src/limits.rt:25:17
-mul-v : tie.Need-mul-v Inv-loop μ-loop
-mul-v c = search needs
-
--- src/limits.rt:25:17
-array-copy-out-v : tie.Need-array-copy-out-v Inv-loop μ-loop
-array-copy-out-v c = search needs
-
--- src/limits.rt:26:13
-size-ok-requires : tie.Need-size-ok-requires Inv-loop μ-loop
-size-ok-requires c κs = search needs
-
 -- src/limits.rt:27:13
 returns : tie.Need-returns Inv-loop μ-loop
 returns c =
@@ -41,15 +29,8 @@ returns c =
     let b3 = b1 .before .before in
     let b4 = b3 .before in
     let b5 = b4 .before in
-    let len : length (b5 .args .t1) ≡ 16 = search needs in λ s. sym (sym (b4 .loop .inv .1 s) ∙ (all-no s (b5 .args .t1) (b4 .loop .i) (b5 .args .count) (omega arith) (b3 .loop-test .taken) sizesOk (sym (b1 .size-ok .ensures s) ∙ not-true _ (c .if1 .taken))))
-
--- src/limits.rt:29:9
-add-i : tie.Need-add-i Inv-loop μ-loop
-add-i c = search needs
-
--- src/limits.rt:24:5
-loop-less : tie.Need-loop-less Inv-loop μ-loop
-loop-less c = search needs
+    let len : length (b5 .args .t1) ≡ 16 = search needs in
+    λ s. all-no s (b5 .args .t1) (b4 .loop .i) (b5 .args .count) (omega arith) (b3 .loop-test .taken) sizesOk _ (b4 .loop .inv .1 s) (sym (b1 .size-ok .ensures s) ∙ not-true _ (c .if1 .taken))
 
 -- src/limits.rt:24:5
 loop-again : tie.Need-loop-again Inv-loop μ-loop
@@ -58,14 +39,15 @@ loop-again c =
     let b3 = b1 .before .before in
     let b4 = b3 .before in
     let b5 = b4 .before in
-    let len : length (b5 .args .t1) ≡ 16 = search needs in (omega arith, λ s. sym (all-go s (b5 .args .t1) (b4 .loop .i) (b5 .args .count) (omega arith) (b3 .loop-test .taken) sizesOk (sym (b1 .size-ok .ensures s) ∙ not-false _ (c .if1 .left))) ∙ b4 .loop .inv .1 s)
+    let len : length (b5 .args .t1) ≡ 16 = search needs in
+    (omega arith, λ s. all-go s (b5 .args .t1) (b4 .loop .i) (b5 .args .count) (omega arith) (b3 .loop-test .taken) sizesOk _ (b4 .loop .inv .1 s) (sym (b1 .size-ok .ensures s) ∙ not-false _ (c .if1 .left)))
 
 -- src/limits.rt:19:1
 returns-2 : tie.Need-returns-2 Inv-loop μ-loop
 returns-2 c =
     let b1 = c .before in
     let b2 = b1 .before in
-    λ s. sym (sym (b1 .loop .inv .1 s) ∙ all-end s (b2 .args .t1) (b1 .loop .i) (b2 .args .count) (c .loop-test .left) sizesOk)
+    λ s. all-end s (b2 .args .t1) (b1 .loop .i) (b2 .args .count) (c .loop-test .left) sizesOk _ (b1 .loop .inv .1 s)
 
 pub sizes-ok-spec : {M : Type 1} → statement M
 sizes-ok-spec =
@@ -74,11 +56,11 @@ sizes-ok-spec =
     Inv-loop
     μ-loop
     loop-holds
-    mul-v
-    array-copy-out-v
-    size-ok-requires
+    (λ c. search needs)
+    (λ c. search needs)
+    (λ c κs. search needs)
     returns
-    add-i
-    loop-less
+    (λ c. search needs)
+    (λ c. search needs)
     loop-again
     returns-2)

@@ -38,14 +38,6 @@ add-live-requires c κs =
     let b4 = b2 .before .before in
     let l = live-short (b4 .args .kind) (viewed (b4 .args .s .now) (b4 .args .views) (b4 .args .count)) (b2 .loop .b) in let e = ap (λ (x : Live). x .count) (b2 .loop .inv .1) in omega (arith, b4 .pre .1 .1 .0)
 
--- src/live.rt:87:9
-add-b : tie.Need-add-b Inv-loop μ-loop
-add-b c = search needs
-
--- src/live.rt:85:5
-loop-less : tie.Need-loop-less Inv-loop μ-loop
-loop-less c = search needs
-
 -- src/live.rt:85:5
 loop-again : tie.Need-loop-again Inv-loop μ-loop
 loop-again c =
@@ -70,7 +62,7 @@ live-bands-spec =
     loop-holds
     is-live-requires
     add-live-requires
-    add-b
-    loop-less
+    (λ c. search needs)
+    (λ c. search needs)
     loop-again
     returns)

@@ -20,14 +20,6 @@ loop-holds : tie.Need-loop-holds Inv-loop μ-loop
 loop-holds c =
     (omega arith, refl)
 
--- src/live.rt:25:30
-sub-noise-coeff : tie.Need-sub-noise-coeff Inv-loop μ-loop
-sub-noise-coeff c = search needs
-
--- src/live.rt:25:12
-noise-coeff-requires : tie.Need-noise-coeff-requires Inv-loop μ-loop
-noise-coeff-requires c κs = search needs
-
 -- src/live.rt:26:13
 returns : tie.Need-returns Inv-loop μ-loop
 unfolding ofBits round
@@ -35,15 +27,7 @@ returns c =
     let b1 = c .before in
     let b2 = b1 .before in
     let b3 = b2 .before in
-    sym (sym (b3 .loop .inv .1) ∙ live-hit _ _ _ (b2 .loop-test .taken) (ap isNonzero (sym (b1 .noise-coeff .ensures)) ∙ c .if1 .taken))
-
--- src/live.rt:28:9
-sub-q : tie.Need-sub-q Inv-loop μ-loop
-sub-q c = search needs
-
--- src/live.rt:24:5
-loop-less : tie.Need-loop-less Inv-loop μ-loop
-loop-less c = search needs
+    live-hit _ _ _ _ (b3 .loop .inv .1) (b2 .loop-test .taken) (ap isNonzero (sym (b1 .noise-coeff .ensures)) ∙ c .if1 .taken)
 
 -- src/live.rt:24:5
 loop-again : tie.Need-loop-again Inv-loop μ-loop
@@ -52,14 +36,14 @@ loop-again c =
     let b1 = c .before in
     let b2 = b1 .before in
     let b3 = b2 .before in
-    (omega arith, sym (live-miss _ _ _ (b2 .loop-test .taken) (ap isNonzero (sym (b1 .noise-coeff .ensures)) ∙ c .if1 .left)) ∙ b3 .loop .inv .1)
+    (omega arith, live-miss _ _ _ _ (b3 .loop .inv .1) (b2 .loop-test .taken) (ap isNonzero (sym (b1 .noise-coeff .ensures)) ∙ c .if1 .left))
 
 -- src/live.rt:19:1
 returns-2 : tie.Need-returns-2 Inv-loop μ-loop
 unfolding liveIn
 returns-2 c =
     let b1 = c .before in
-    sym (sym (b1 .loop .inv .1) ∙ (let z : b1 .loop .q ≡ 0 = omega arith in rw z refl))
+    let z : b1 .loop .q ≡ 0 = omega arith in rw z at (b1 .loop .inv .1)
 
 pub live-in-spec : {M : Type 1} → statement M
 live-in-spec =
@@ -68,10 +52,10 @@ live-in-spec =
     Inv-loop
     μ-loop
     loop-holds
-    sub-noise-coeff
-    noise-coeff-requires
+    (λ c. search needs)
+    (λ c κs. search needs)
     returns
-    sub-q
-    loop-less
+    (λ c. search needs)
+    (λ c. search needs)
     loop-again
     returns-2)

@@ -21,18 +21,6 @@ abbrev μ-loop : tie.MeasureT-loop
 loop-holds : tie.Need-loop-holds Inv-loop μ-loop
 loop-holds c = (omega arith, λ r. refl)
 
--- src/values.rt:93:17
-mul-v : tie.Need-mul-v Inv-loop μ-loop
-mul-v c = search needs
-
--- src/values.rt:93:17
-array-copy-out-v : tie.Need-array-copy-out-v Inv-loop μ-loop
-array-copy-out-v c = search needs
-
--- src/values.rt:94:13
-values-ok-requires : tie.Need-values-ok-requires Inv-loop μ-loop
-values-ok-requires c κs = search needs
-
 -- src/values.rt:95:13
 returns : tie.Need-returns Inv-loop μ-loop
 returns c =
@@ -40,15 +28,8 @@ returns c =
     let b3 = b1 .before .before in
     let b4 = b3 .before in
     let b6 = b4 .before .before in
-    let len : length (b6 .args .t2) ≡ 16 = search needs in λ r. sym (sym (b4 .loop .inv .1 r) ∙ values-no (b6 .args .s .now) (b6 .args .t2) (b4 .loop .i) (b6 .args .count) (omega arith) (b3 .loop-test .taken) r (sym (b1 .values-ok .ensures) ∙ not-true _ (c .if1 .taken)))
-
--- src/values.rt:97:9
-add-i : tie.Need-add-i Inv-loop μ-loop
-add-i c = search needs
-
--- src/values.rt:92:5
-loop-less : tie.Need-loop-less Inv-loop μ-loop
-loop-less c = search needs
+    let len : length (b6 .args .t2) ≡ 16 = search needs in
+    λ r. values-no (b6 .args .s .now) (b6 .args .t2) (b4 .loop .i) (b6 .args .count) (omega arith) (b3 .loop-test .taken) r _ (b4 .loop .inv .1 r) (sym (b1 .values-ok .ensures) ∙ not-true _ (c .if1 .taken))
 
 -- src/values.rt:92:5
 loop-again : tie.Need-loop-again Inv-loop μ-loop
@@ -57,14 +38,15 @@ loop-again c =
     let b3 = b1 .before .before in
     let b4 = b3 .before in
     let b6 = b4 .before .before in
-    let len : length (b6 .args .t2) ≡ 16 = search needs in (omega arith, λ r. sym (values-go (b6 .args .s .now) (b6 .args .t2) (b4 .loop .i) (b6 .args .count) (omega arith) (b3 .loop-test .taken) r (sym (b1 .values-ok .ensures) ∙ not-false _ (c .if1 .left))) ∙ b4 .loop .inv .1 r)
+    let len : length (b6 .args .t2) ≡ 16 = search needs in
+    (omega arith, λ r. values-go (b6 .args .s .now) (b6 .args .t2) (b4 .loop .i) (b6 .args .count) (omega arith) (b3 .loop-test .taken) r _ (b4 .loop .inv .1 r) (sym (b1 .values-ok .ensures) ∙ not-false _ (c .if1 .left)))
 
 -- src/values.rt:87:1
 returns-2 : tie.Need-returns-2 Inv-loop μ-loop
 returns-2 c =
     let b1 = c .before in
     let b3 = b1 .before .before in
-    λ r. sym (sym (b1 .loop .inv .1 r) ∙ values-end (b3 .args .s .now) (b3 .args .t2) (b1 .loop .i) (b3 .args .count) (c .loop-test .left) r)
+    λ r. values-end (b3 .args .s .now) (b3 .args .t2) (b1 .loop .i) (b3 .args .count) (c .loop-test .left) r _ (b1 .loop .inv .1 r)
 
 pub first-bad-spec : {M : Type 1} → statement M
 first-bad-spec =
@@ -73,11 +55,11 @@ first-bad-spec =
     Inv-loop
     μ-loop
     loop-holds
-    mul-v
-    array-copy-out-v
-    values-ok-requires
+    (λ c. search needs)
+    (λ c. search needs)
+    (λ c κs. search needs)
     returns
-    add-i
-    loop-less
+    (λ c. search needs)
+    (λ c. search needs)
     loop-again
     returns-2)

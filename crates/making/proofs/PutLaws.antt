@@ -1,4 +1,4 @@
--- Laws of lists laid one after the other in one: what stands where, and what the stores leave that lay them. Assumes nothing.
+-- Laws of lists put one after the other into one: what stands where, and what the stores leave. Assumes nothing.
 use Prim.Native.Nat.{ℕ, zero, suc, _+_, _-_, _*_, _≤_, _<_}
 use mathlib.Core.Path.{_≡_, refl, ap, sym, _∙_}
 use mathlib.Core.Logic.{⊎-elim}
@@ -55,28 +55,28 @@ store-next : {A : Type 0} (p l ls : List A) (n m : ℕ) (x : A) → length p ≡
 store-next p l ls n m x q w h e = rw (e, w, add-one n, drop-cons l n x h, set-at p (getD l n x) (drop (suc n) l) x n q, append-assoc) refl
 
 -- a list xs is put at a place: the loop's start, its turn and its end
-pub laid-start : {A : Type 0} (l : List A) (at n : ℕ) → n ≡ at → l ≡ (take at l ++ []) ++ drop n l
-laid-start l at n q = rw (q, append-nil (take at l)) (sym (take-append-drop at l))
+pub put-start : {A : Type 0} (l : List A) (at n : ℕ) → n ≡ at → l ≡ (take at l ++ []) ++ drop n l
+put-start l at n q = rw (q, append-nil (take at l)) (sym (take-append-drop at l))
 
-pub laid-end : {A : Type 0} (xs l ls : List A) (at m n : ℕ) → m ≡ n → ls ≡ (take at l ++ xs) ++ drop m l → ls ≡ take at l ++ (xs ++ drop n l)
-laid-end xs l ls at m n q e = e ∙ rw (q) (append-assoc (take at l) xs (drop n l))
+pub put-end : {A : Type 0} (xs l ls : List A) (at m n : ℕ) → m ≡ n → ls ≡ (take at l ++ xs) ++ drop m l → ls ≡ take at l ++ (xs ++ drop n l)
+put-end xs l ls at m n q e = e ∙ rw (q) (append-assoc (take at l) xs (drop n l))
 
-pub lay-again : {A : Type 0} (l xs ls : List A) (at i : ℕ) (d : A) → at + i < length l → i < length xs → ls ≡ (take at l ++ take i xs) ++ drop (at + i) l
+pub put-again : {A : Type 0} (l xs ls : List A) (at i : ℕ) (d : A) → at + i < length l → i < length xs → ls ≡ (take at l ++ take i xs) ++ drop (at + i) l
     → set ls (at + i) (getD xs i d) ≡ (take at l ++ take (i + 1) xs) ++ drop (at + (i + 1)) l
-lay-again l xs ls at i d h k e =
+put-again l xs ls at i d h k e =
     let q : length (take at l ++ take i xs) ≡ at + i = rw (length-append, length-take-le at l (omega arith), length-take-le i xs (omega arith)) refl in
     store-next (take at l ++ take i xs) l ls (at + i) (at + (i + 1)) (getD xs i d) q (omega arith) h e
     ∙ rw (add-one i, take-suc xs i d k) (ap (λ t. t ++ drop (at + suc i) l) (append-assoc (take at l) (take i xs) (getD xs i d ∷ [])))
 
 -- a band put at place n
-abbrev put : List Float → ℕ → BiquadCoeffs → List Float
-put ls n c = set (set (set (set (set ls n (c .b0)) (n + 1) (c .b1)) (n + 2) (c .b2)) (n + 3) (c .a1)) (n + 4) (c .a2)
+abbrev put-band : List Float → ℕ → BiquadCoeffs → List Float
+put-band ls n c = set (set (set (set (set ls n (c .b0)) (n + 1) (c .b1)) (n + 2) (c .b2)) (n + 3) (c .a1)) (n + 4) (c .a2)
 
 five : (p : List Float) (a b c d e : Float) → ((((p ++ (a ∷ [])) ++ (b ∷ [])) ++ (c ∷ [])) ++ (d ∷ [])) ++ (e ∷ []) ≡ p ++ (a ∷ b ∷ c ∷ d ∷ e ∷ [])
 five p a b c d e = simp append-assoc
 
-put-is : (p l ls : List Float) (n : ℕ) (c : BiquadCoeffs) → length p ≡ n → n + 5 ≤ length l → ls ≡ p ++ drop n l → put ls n c ≡ (p ++ coeffFloats c) ++ drop (n + 5) l
-put-is p l ls n c q h e =
+put-band-is : (p l ls : List Float) (n : ℕ) (c : BiquadCoeffs) → length p ≡ n → n + 5 ≤ length l → ls ≡ p ++ drop n l → put-band ls n c ≡ (p ++ coeffFloats c) ++ drop (n + 5) l
+put-band-is p l ls n c q h e =
     let more : (t : List Float) (m k : ℕ) (x : Float) → k ≡ m + 1 → length t ≡ m → length (t ++ (x ∷ [])) ≡ k = λ t m k x v w. rw (length-append, w, v) refl in
     let p1 = p ++ (c .b0 ∷ []) in
     let p2 = p1 ++ (c .b1 ∷ []) in
@@ -96,20 +96,20 @@ put-is p l ls n c q h e =
 -- a turn of the loop over the bands
 pub bands-again : (bands : List BiquadCoeffs) (d : BiquadCoeffs) (l ls : List Float) (at b : ℕ) → b < length bands → at + b * 5 + 5 ≤ length l
     → ls ≡ (take at l ++ joinTo (λ i. coeffFloats (getD bands i zeroCoeffs)) b) ++ drop (at + b * 5) l
-    → put ls (at + b * 5) (getD bands b d) ≡ (take at l ++ joinTo (λ i. coeffFloats (getD bands i zeroCoeffs)) (b + 1)) ++ drop (at + (b + 1) * 5) l
+    → put-band ls (at + b * 5) (getD bands b d) ≡ (take at l ++ joinTo (λ i. coeffFloats (getD bands i zeroCoeffs)) (b + 1)) ++ drop (at + (b + 1) * 5) l
 unfolding joinTo
 bands-again bands d l ls at b h k e =
     let f : ℕ → List Float = λ i. coeffFloats (getD bands i zeroCoeffs) in
     let q : length (take at l ++ joinTo f b) ≡ at + b * 5 = rw (length-append, length-take-le at l (omega arith), length-joinTo f 5 (λ i. refl) b) refl in
     let w : at + (b + 1) * 5 ≡ at + b * 5 + 5 = omega arith in
-    ap (put ls (at + b * 5)) (read-any bands b d zeroCoeffs h)
-    ∙ put-is (take at l ++ joinTo f b) l ls (at + b * 5) (getD bands b zeroCoeffs) q k e
+    ap (put-band ls (at + b * 5)) (read-any bands b d zeroCoeffs h)
+    ∙ put-band-is (take at l ++ joinTo f b) l ls (at + b * 5) (getD bands b zeroCoeffs) q k e
     ∙ rw (w, add-one b) (ap (λ t. t ++ drop (at + b * 5 + 5) l) (append-assoc (take at l) (joinTo f b) (f b)))
 
 -- a list put after those that are there
-lay-next : {A : Type 0} (p xs l ls r : List A) (n m : ℕ) → length p ≡ n → n ≤ m → ls ≡ p ++ drop n l → r ≡ take n ls ++ (xs ++ drop m ls)
+put-next : {A : Type 0} (p xs l ls r : List A) (n m : ℕ) → length p ≡ n → n ≤ m → ls ≡ p ++ drop n l → r ≡ take n ls ++ (xs ++ drop m ls)
     → r ≡ (p ++ xs) ++ drop m l
-lay-next p xs l ls r n m q k e f =
+put-next p xs l ls r n m q k e f =
     let j : n + (m - n) ≡ m = omega arith in
     let d : drop m (p ++ drop n l) ≡ drop m l =
     ap (λ (x : ℕ). drop x (p ++ drop n l)) (sym j) ∙ sym (drop-drop (m - n) n (p ++ drop n l)) ∙ ap (drop (m - n)) (drop-at p (drop n l) n q) ∙ drop-drop (m - n) n l ∙ ap (λ (x : ℕ). drop x l) j in
@@ -117,17 +117,17 @@ lay-next p xs l ls r n m q k e f =
 
 -- LAW: six lists put one after the other, with nothing left of what was there
 module _ (l a b c d e f r1 r2 r3 r4 r5 r6 : List Float) (n1 n2 n3 n4 n5 n6 : ℕ) where
-  pub six-laid : length a ≡ n1 → n1 + length b ≡ n2 → n2 + length c ≡ n3 → n3 + length d ≡ n4 → n4 + length e ≡ n5 → n5 ≤ n6 → length l ≤ n6
+  pub six-put : length a ≡ n1 → n1 + length b ≡ n2 → n2 + length c ≡ n3 → n3 + length d ≡ n4 → n4 + length e ≡ n5 → n5 ≤ n6 → length l ≤ n6
       → r1 ≡ a ++ drop n1 l → r2 ≡ take n1 r1 ++ (b ++ drop n2 r1) → r3 ≡ take n2 r2 ++ (c ++ drop n3 r2) → r4 ≡ take n3 r3 ++ (d ++ drop n4 r3)
       → r5 ≡ take n4 r4 ++ (e ++ drop n5 r4) → r6 ≡ take n5 r5 ++ (f ++ drop n6 r5) → r6 ≡ a ++ (b ++ (c ++ (d ++ (e ++ f))))
-  six-laid h1 h2 h3 h4 h5 h6 hl e1 e2 e3 e4 e5 e6 =
+  six-put h1 h2 h3 h4 h5 h6 hl e1 e2 e3 e4 e5 e6 =
       let j2 : length (a ++ b) ≡ n2 = rw length-append (omega arith) in
       let j3 : length ((a ++ b) ++ c) ≡ n3 = rw (length-append, j2) h3 in
       let j4 : length (((a ++ b) ++ c) ++ d) ≡ n4 = rw (length-append, j3) h4 in
       let j5 : length ((((a ++ b) ++ c) ++ d) ++ e) ≡ n5 = rw (length-append, j4) h5 in
-      let s2 = lay-next a b l r1 r2 n1 n2 h1 (omega arith) e1 e2 in
-      let s3 = lay-next (a ++ b) c l r2 r3 n2 n3 j2 (omega arith) s2 e3 in
-      let s4 = lay-next ((a ++ b) ++ c) d l r3 r4 n3 n4 j3 (omega arith) s3 e4 in
-      let s5 = lay-next (((a ++ b) ++ c) ++ d) e l r4 r5 n4 n5 j4 (omega arith) s4 e5 in
-      lay-next ((((a ++ b) ++ c) ++ d) ++ e) f l r5 r6 n5 n6 j5 h6 s5 e6
+      let s2 = put-next a b l r1 r2 n1 n2 h1 (omega arith) e1 e2 in
+      let s3 = put-next (a ++ b) c l r2 r3 n2 n3 j2 (omega arith) s2 e3 in
+      let s4 = put-next ((a ++ b) ++ c) d l r3 r4 n3 n4 j3 (omega arith) s3 e4 in
+      let s5 = put-next (((a ++ b) ++ c) ++ d) e l r4 r5 n4 n5 j4 (omega arith) s4 e5 in
+      put-next ((((a ++ b) ++ c) ++ d) ++ e) f l r5 r6 n5 n6 j5 h6 s5 e6
       ∙ rw (drop-of-length-le l {i = n6} hl) (simp (append-assoc, append-nil))
