@@ -14,7 +14,7 @@ use Rattle.table.specs.Decode.{decode, entriesOf}
 use Rattle.table.specs.Desk.{bandCount}
 use Rattle.float.specs.F32.{nearest}
 use Rattle.voice.specs.Lists.{upTo, joinTo, padded}
-use Rattle.voice.specs.Limits.{maxEntries, maxPartials, maxBands, maxBlended}
+use Rattle.voice.specs.Limits.{maxEntries, maxPartials, maxBands, maxBlended, listsPlaces, partialsPlaces, noisePlaces}
 use Rattle.filters.specs.Biquad.{noiseBand}
 use Rattle.filters.specs.Band.{zeroCoeffs, bandCompensation}
 use Rattle.filters.specs.declared.biquad.BiquadCoeffs.{BiquadCoeffs}
@@ -206,8 +206,8 @@ freshVoice k es rate centres =
       live = padded maxBands 0 (liveBands k es j);
     })
     (freshLists vs rate centres)
-    (upTo (partialPlace k n vs) 2048)
-    (upTo (noisePlace k n vs) 1024)
+    (upTo (partialPlace k n vs) partialsPlaces)
+    (upTo (noisePlace k n vs) noisePlaces)
     firstState
 
 -- a refused making makes no voice: the blank one, all zero, with no entries
@@ -225,9 +225,9 @@ blankVoice =
       «sample_rate» = nearest 0 1;
       live = replicate maxBands 0;
     })
-    (replicate 160 (nearest 0 1))
-    (replicate 2048 (nearest 0 1))
-    (replicate 1024 (nearest 0 1))
+    (replicate listsPlaces (nearest 0 1))
+    (replicate partialsPlaces (nearest 0 1))
+    (replicate noisePlaces (nearest 0 1))
     (stateOf (replicate maxPartials (nearest 0 1)) noMemories (record { state = 0 }))
 
 -- ---- questions 8 to 12

@@ -15,6 +15,7 @@ use Rattle.player.specs.Fade.{nyquistFade}
 use Rattle.filters.specs.Rng.{nextBipolar}
 use Rattle.filters.specs.Biquad.{tickOf}
 use Rattle.player.specs.Bracket.{bracketOf, sidesOf, between}
+use Rattle.voice.specs.Limits.{maxPartials, maxBands, entryPartials, entryNoise}
 use Rattle.voice.specs.Voice.{pitches, stretches, mainlobes, noiseGains, compensations, bandAt, memoryAt, withMemory, stateOf}
 use Rattle.player.specs.declared.pitch.bracket.Sides.{Sides}
 use Rattle.filters.specs.declared.biquad.Tick.{Tick}
@@ -41,10 +42,12 @@ fadeAt v f0 i = nyquistFade (freqAt v f0 i) (v .set .«sample_rate» ⊗ nearest
 
 -- channel q's coefficient for partial i, and for band b, between the two sides
 abbrev pub partialRow : List Float → Sides → ℕ → ℕ → Float
-partialRow ps s q i = lerp (getD ps (s .lo * 128 + (q * 32 + i)) nan) (getD ps (s .hi * 128 + (q * 32 + i)) nan) (s .t)
+partialRow ps s q i =
+    lerp (getD ps (s .lo * entryPartials + (q * maxPartials + i)) nan) (getD ps (s .hi * entryPartials + (q * maxPartials + i)) nan) (s .t)
 
 abbrev pub noiseRow : List Float → Sides → ℕ → ℕ → Float
-noiseRow ns s q b = lerp (getD ns (s .lo * 64 + (q * 16 + b)) nan) (getD ns (s .hi * 64 + (q * 16 + b)) nan) (s .t)
+noiseRow ns s q b =
+    lerp (getD ns (s .lo * entryNoise + (q * maxBands + b)) nan) (getD ns (s .hi * entryNoise + (q * maxBands + b)) nan) (s .t)
 
 -- ---- partials: every phase moves, and those with a coefficient sound
 unfoldable pub movedPhases : Voice → Float → List Float → List Float

@@ -24,3 +24,26 @@ maxChannels = 8
 -- the highest pitch and the highest finite frequency, in Hz
 abbrev pub maxHz : ℕ
 maxHz = 20000
+
+-- ---- how a voice lies: the places of a short list, of all of them, and of an entry's coefficients, of partials and of noise, over the
+-- channels of a blend; those of all entries; and the memories, two a band
+abbrev pub listPlaces : ℕ
+listPlaces = 16
+
+abbrev pub listsPlaces : ℕ
+listsPlaces = 160
+
+abbrev pub entryPartials : ℕ
+entryPartials = 128
+
+abbrev pub entryNoise : ℕ
+entryNoise = 64
+
+abbrev pub partialsPlaces : ℕ
+partialsPlaces = 2048
+
+abbrev pub noisePlaces : ℕ
+noisePlaces = 1024
+
+abbrev pub memoryPlaces : ℕ
+memoryPlaces = 32

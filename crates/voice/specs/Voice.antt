@@ -7,7 +7,7 @@ use lib.Dec.{leb, ltb}
 use lib.Ieee.{Float, nan, le, lt}
 use Rattle.float.specs.F32.{nearest}
 use Rattle.voice.specs.Lists.{every, upTo}
-use Rattle.voice.specs.Limits.{maxEntries, maxPartials, maxBands, maxBlended, maxHz}
+use Rattle.voice.specs.Limits.{maxEntries, maxPartials, maxBands, maxBlended, maxHz, listPlaces, memoryPlaces}
 pub use Rattle.filters.specs.Rate.{rateOk}
 use Rattle.filters.specs.Rng.{newRng, defaultSeed}
 use Rattle.filters.specs.declared.biquad.BiquadCoeffs.{BiquadCoeffs}
@@ -39,7 +39,7 @@ bandsAt = 64
 
 -- list n by itself
 unfoldable pub listAt : List Float → ℕ → List Float
-listAt xs n = upTo (λ i. getD xs (n * 16 + i) nan) 16
+listAt xs n = upTo (λ i. getD xs (n * listPlaces + i) nan) listPlaces
 
 abbrev pub pitches : Voice → List Float
 pitches v = listAt (v .lists) pitchesList
@@ -135,7 +135,7 @@ withState v s = voiceOf (v .set) (v .lists) (v .partials) (v .noise) s
 
 -- the running state at first and after a reset: all 0, and the default seed's noise number
 abbrev pub noMemories : List Float
-noMemories = replicate 32 (nearest 0 1)
+noMemories = replicate memoryPlaces (nearest 0 1)
 
 abbrev pub firstState : State
 firstState = stateOf (replicate maxPartials (nearest 0 1)) noMemories (newRng defaultSeed)
