@@ -247,7 +247,7 @@ fn set(mut o: Options, option: u32, i: usize) -> Options {
             o,
             option,
             &text,
-            b".. and so on: too many digits for a number",
+            b"too many digits: these are the first 64, and a number has at most 15",
         );
     }
     if option == 1 {
