@@ -20,17 +20,17 @@ use Rattle.player.proofs.Bench as sound
 use Rattle.claim.specs.Bench.{Bench}
 
 -- a target that holds the rewritten image, with bytes beyond it, and one that is too short
-held : (t : CoeffTable) (end : ℕ) (target beyond : List ℕ) → length target ≡ length (encode t)
+target-holds : (t : CoeffTable) (end : ℕ) (target beyond : List ℕ) → length target ≡ length (encode t)
     → (rewriting (ok t end) (length (target ++ beyond)) ≡ ok (length (t .entries)) (length (encode t))) × (rewritten (ok t end) (target ++ beyond) ≡ encode t ++ beyond)
-held t end target beyond e =
+target-holds t end target beyond e =
     let n = length (encode t) in
     let l = length-append target beyond in
     let h = le-leb n (length (target ++ beyond)) (omega arith) in
     (rw h, rw (h, drop-at target beyond n e))
 
-short : (t : CoeffTable) (end : ℕ) (target : List ℕ) → length target < length (encode t)
+target-short : (t : CoeffTable) (end : ℕ) (target : List ℕ) → length target < length (encode t)
     → (rewriting (ok t end) (length target) ≡ refused (refusal 17 0 0)) × (rewritten (ok t end) target ≡ target)
-short t end target h = let k = lt-leb (length (encode t)) (length target) h in (rw k, rw k)
+target-short t end target h = let k = lt-leb (length (encode t)) (length target) h in (rw k, rw k)
 
 -- the table of P6
 abbrev nothing : CoeffTable
@@ -44,8 +44,8 @@ bench = record {
   p3 = read.p3;
   p4 = read.p4;
   p5 = read.p5;
-  p6 = held nothing 14;
-  p6-short = λ target e. let h : length target < 14 = omega arith in short nothing 14 target h;
+  p6 = target-holds nothing 14;
+  p6-short = λ target e. let h : length target < 14 = omega arith in target-short nothing 14 target h;
   p7 = (sound.p7 .at-0, sound.p7 .at-1, sound.p7 .at-64, sound.p7 .at-128, sound.p7 .at-256);
   p8 = sound.p8;
   p9 = (sound.p9 .state, sound.p9 .value);

@@ -5,7 +5,7 @@ use mathlib.Core.Bool.{Bool, true, false, cond}
 use Prim.Native.Nat.{ℕ, zero, suc, _+_, _*_, _%_, _≤_, _<_}
 use native.Mathlib.Nat.{suc-add, add-suc, add-zero}
 use native.Mathlib.Omega.{arith}
-use lib.ListN.{length, getD, take, drop, getD-replicate}
+use lib.ListN.{getD, take, drop, getD-replicate}
 use lib.Dec.{T, eqb}
 use lib.Ieee.{Float, nan, binary32, round, le, lt, eq, fits}
 use lib.Ieee.Fits.{round-fits, cond-fits}

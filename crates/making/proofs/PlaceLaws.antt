@@ -14,7 +14,7 @@ use Rattle.float.specs.F32.{nearest}
 use Rattle.voice.specs.Limits.{maxBlended}
 use Rattle.voice.specs.Lists.{upTo}
 use Rattle.voice.proofs.Loops.{upTo-again}
-use Rattle.making.specs.Making.{ofEntry, slotPlace, placeOf}
+use Rattle.making.specs.Making.{ofEntry, slotCoeff, coeffPlace}
 use Rattle.making.specs.inner.Views.{viewed, noView}
 use Rattle.making.proofs.MakeLists.{upTo-full}
 use Rattle.making.proofs.GatherLaws.{nth-view, nth-past}
@@ -28,20 +28,20 @@ row-past x n w p h = le-div-iff-mul-le p .1 (omega (arith, mul-comm w n))
 -- rows of w columns, four to an entry: what a turn of the loop over the places writes, and that nothing stands past the last entry
 module _ (coeff : PitchEntry → ℕ → ℕ → Float) (w : ℕ) (pos : 0 < maxBlended * w) (s : List ℕ) (views : List EntryView) (n : ℕ) (l : n ≤ length views) (k : Kind) (m : ℕ) where
   abbrev places : ℕ → Float
-  places x = placeOf coeff w k m (viewed s views n) x
+  places x = coeffPlace coeff w k m (viewed s views n) x
 
   pub place-again : (x : ℕ) (l₀ out : List Float) (y : Float) → x < length l₀ → x < maxBlended * w * n
-      → y ≡ slotPlace coeff w k m (entryAt s (getD views (x / (maxBlended * w)) noView)) x
+      → y ≡ slotCoeff coeff w k m (entryAt s (getD views (x / (maxBlended * w)) noView)) x
       → out ≡ upTo places x ++ drop x l₀ → set out x y ≡ upTo places (x + 1) ++ drop (x + 1) l₀
-  unfolding placeOf
+  unfolding coeffPlace
   place-again x l₀ out y b h e so =
-      let p : places x ≡ y = ap (ofEntry (λ e. slotPlace coeff w k m e x)) (nth-view s views n (x / (maxBlended * w)) l (row-of x n (maxBlended * w) pos h)) ∙ sym e in
+      let p : places x ≡ y = ap (ofEntry (λ e. slotCoeff coeff w k m e x)) (nth-view s views n (x / (maxBlended * w)) l (row-of x n (maxBlended * w) pos h)) ∙ sym e in
       rw (← p) (upTo-again places x l₀ out b so)
 
   pub place-full : (x size : ℕ) (out : List Float) → x ≤ size → x ≡ maxBlended * w * n
       → out ≡ upTo places x ++ drop x (replicate size (nearest 0 1)) → out ≡ upTo places size
-  unfolding placeOf
+  unfolding coeffPlace
   place-full x size out b e so =
       upTo-full places (nearest 0 1) x size out b
-      (λ y h. ap (ofEntry (λ e. slotPlace coeff w k m e y)) (nth-past s views n (y / (maxBlended * w)) l (row-past y n (maxBlended * w) pos (omega arith))))
+      (λ y h. ap (ofEntry (λ e. slotCoeff coeff w k m e y)) (nth-past s views n (y / (maxBlended * w)) l (row-past y n (maxBlended * w) pos (omega arith))))
       so

@@ -149,18 +149,18 @@ ofEntry f (some e) = f e
 ofEntry f none = nearest 0 1
 
 -- what stands at place x of a flat array of coefficients: an entry after the other, of each four slots, of each w columns
-abbrev pub slotPlace : (PitchEntry → ℕ → ℕ → Float) → ℕ → Kind → ℕ → PitchEntry → ℕ → Float
-slotPlace coeff w k n e x = inSlot (λ c. coeff e c (x % w)) (slotChannel k n (x / w % maxBlended))
+abbrev pub slotCoeff : (PitchEntry → ℕ → ℕ → Float) → ℕ → Kind → ℕ → PitchEntry → ℕ → Float
+slotCoeff coeff w k n e x = inSlot (λ c. coeff e c (x % w)) (slotChannel k n (x / w % maxBlended))
 
-unfoldable pub placeOf : (PitchEntry → ℕ → ℕ → Float) → ℕ → Kind → ℕ → List PitchEntry → ℕ → Float
-placeOf coeff w k n vs x = ofEntry (λ e. slotPlace coeff w k n e x) (nth vs (x / (maxBlended * w)))
+unfoldable pub coeffPlace : (PitchEntry → ℕ → ℕ → Float) → ℕ → Kind → ℕ → List PitchEntry → ℕ → Float
+coeffPlace coeff w k n vs x = ofEntry (λ e. slotCoeff coeff w k n e x) (nth vs (x / (maxBlended * w)))
 
 -- entry × 128 + slot × 32 + partial, and entry × 64 + slot × 16 + band
 abbrev pub partialPlace : Kind → ℕ → List PitchEntry → ℕ → Float
-partialPlace k n vs x = placeOf partialCoeff maxPartials k n vs x
+partialPlace k n vs x = coeffPlace partialCoeff maxPartials k n vs x
 
 abbrev pub noisePlace : Kind → ℕ → List PitchEntry → ℕ → Float
-noisePlace k n vs x = placeOf noiseCoeff maxBands k n vs x
+noisePlace k n vs x = coeffPlace noiseCoeff maxBands k n vs x
 
 abbrev pub kindNumber : Kind → ℕ
 kindNumber (Kind.Single c) = 0
