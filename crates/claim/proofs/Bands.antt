@@ -15,11 +15,13 @@ use borrow.Author.Tests.{eq-eqb, ne-eqb}
 use Rattle.wire.specs.Parse.{pick}
 use Rattle.table.specs.declared.desk.Kind.{Kind}
 use Rattle.table.specs.Table.{PitchEntry}
+use Rattle.table.specs.Desk.{bandCount}
 use Rattle.voice.specs.Lists.{upTo, steps}
 use Rattle.voice.specs.Voice.{bandAt, memoryAt, withMemory}
 use Rattle.filters.specs.Biquad.{cleared, tickOf}
 use Rattle.filters.specs.Band.{zeroCoeffs}
-use Rattle.making.specs.Making.{isLive, liveBands}
+use Rattle.player.specs.Bands.{tickingSet}
+use Rattle.making.specs.Making.{isLive, liveBands, freshVoice}
 use Rattle.filters.specs.declared.biquad.BiquadCoeffs.{BiquadCoeffs}
 use Rattle.filters.specs.declared.biquad.BiquadState.{BiquadState}
 use Rattle.voice.proofs.Loops.{length-upTo, upTo-at}
@@ -152,3 +154,16 @@ tick-is x live cs f g n m h =
     upTo-at g n i cleared w
     ∙ h i w
     ∙ sym (rw (tick-at 0 x live cs (upTo f n) i (omega arith) (omega arith), upTo-at f n i cleared w, zero-add i)))
+
+-- ---- of a single voice every band is live
+single-bands : (c : ℕ) (es : List PitchEntry) (j : ℕ) → liveBands (Kind.Single c) es j ≡ upTo (λ b. b) j
+unfolding liveBands upTo
+single-bands c es zero = refl
+single-bands c es (suc j) = ap (λ l. l ++ (j ∷ [])) (single-bands c es j)
+
+-- LAW: so the numbers of a voice that was made are those that it is played by
+pub ticking-made : (k : Kind) (es : List PitchEntry) (rate : Float) (centres : List Float)
+    → tickingSet (freshVoice k es rate centres .set) ≡ freshVoice k es rate centres .set
+unfolding freshVoice
+ticking-made (Kind.Single c) es rate centres = rw (single-bands c es (bandCount (Kind.Single c) es), length-upTo (λ (b : ℕ). b) (bandCount (Kind.Single c) es))
+ticking-made Kind.Blend es rate centres = refl

@@ -20,8 +20,9 @@ use Rattle.filters.specs.Rng.{stepped, bipolarOf, nextBipolar, newRng}
 use Rattle.filters.specs.Biquad.{cleared, noiseBand}
 use Rattle.filters.specs.Band.{zeroCoeffs}
 use Rattle.voice.specs.Input.{frequencyAt, cleaned}
-use Rattle.voice.specs.Voice.{bandAt, memoryAt, keepsRules, withState, stateOf, firstState}
+use Rattle.voice.specs.Voice.{voiceOf, bandAt, memoryAt, keepsRules, withState, stateOf, firstState}
 use Rattle.player.specs.Sound.{unitVariance, noiseIn, sidesAt, stretchAt, movedPhases, movedRng, movedMemories, moved}
+use Rattle.player.specs.Bands.{ticking}
 use Rattle.player.specs.Block.{stateAt, blockEnd}
 use Rattle.voice.specs.Question.{ask, accepted, playQuestion}
 use Rattle.player.specs.Play.{played}
@@ -37,7 +38,7 @@ use Rattle.claim.specs.Calls.{callOf, outLength, VoiceCall, playing, res
 use Rattle.claim.proofs.Folds.{take-replicate, getD-padded}
 use Rattle.claim.proofs.Memories.{memories-first}
 use Rattle.claim.proofs.Front.{stretch-front}
-use Rattle.claim.proofs.Bands.{live-bands, isIn-live, tick-is}
+use Rattle.claim.proofs.Bands.{live-bands, isIn-live, tick-is, ticking-made}
 use Rattle.claim.proofs.Rules.{VoiceF32, question-call, question-none, rules-kept, after-state, with-32}
 
 -- the first n phases of a list whose first n are moved
@@ -120,7 +121,7 @@ first-sized = record { places = refl }
 
 after-sized : (v : Voice) (c : VoiceCall) → Sized (v .state) → Sized (after v c .state)
 unfolding after played resetOf reseedOf
-after-sized v (playing p) h = accepted-sized (playQuestion v (callOf p) (outLength p)) v (blockEnd v (callOf p)) h (stateAt-sized v (frequencyAt (callOf p) 0) (p .shape .samples) h)
+after-sized v (playing p) h = accepted-sized (playQuestion v (callOf p) (outLength p)) v (blockEnd (ticking v) (callOf p)) h (stateAt-sized (ticking v) (frequencyAt (callOf p) 0) (p .shape .samples) h)
 after-sized v resetting h = accepted-sized (ask (keepsRules v) 13 0) v firstState h first-sized
 after-sized v (reseeding n) h = accepted-sized (ask (keepsRules v) 13 0) v (reseededState (v .state) n) h (record { places = refl })
 
@@ -219,13 +220,19 @@ module _ (k : Kind) (es : List PitchEntry) (rate : Float) (centres : List Float)
         ap (λ ms. supplied plainly (record { phases = take (plainly .phases) (s .phases); memories = ms; noise = newRng n .state }))
         (memories-first (bandCount k es) most ∙ ap (λ l. replicate l cleared) (sym bands-length))
 
+    -- LAW: the fresh voice, whatever its running state, is played as it stands: of a single voice every band is in the list
+    ticking-fresh : (s : State) → ticking (withState fresh s) ≡ withState fresh s
+    unfolding freshVoice
+    ticking-fresh s = ap (λ t. voiceOf t (fresh .lists) (fresh .partials) (fresh .noise) s) (ticking-made k es rate centres)
+
     -- LAW: one call
     pub view-after : (m : Making) (s : State) (c : VoiceCall) → plainly .phases ≤ 32 → Sized s → keepsRules (withState fresh s) ≡ true
         → supplied plainly (running (after (withState fresh s) c)) ≡ machineFrom (supply s) (fedBy m c)
     unfolding after played resetOf reseedOf fedBy machineFrom move
     view-after m s (playing p) a z h =
         rw (← question-call (withState fresh s) (callOf p) (outLength p) h)
-        (view-accepted plainly (playQuestion (withState fresh s) (callOf p) (outLength p)) (withState fresh s) _ _ (view-stateAt s (frequencyAt (callOf p) 0) (p .shape .samples) z))
+        (view-accepted plainly (playQuestion (withState fresh s) (callOf p) (outLength p)) (withState fresh s) _ _
+        (rw (ticking-fresh s) (view-stateAt s (frequencyAt (callOf p) 0) (p .shape .samples) z)))
     view-after m s resetting a z h = rw (question-none (withState fresh s) h) (ap (supplied plainly) (view-first a))
     view-after m s (reseeding n) a z h = rw (question-none (withState fresh s) h) (view-reseed s n)
 

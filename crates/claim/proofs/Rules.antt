@@ -17,8 +17,9 @@ use Rattle.float.specs.F32.{nearest}
 use Rattle.player.specs.Phase.{Step, advanceOf}
 use Rattle.voice.specs.Lists.{mapTo, steps}
 use Rattle.voice.specs.Input.{Call, partOf, frequencyAt, frequencyOk, cleaned}
-use Rattle.voice.specs.Voice.{pitches, stretches, phaseOk, pitchOk, stretchOk, countsOk, phasesOk, rulesOf, keepsRules, withState, firstState}
+use Rattle.voice.specs.Voice.{pitches, stretches, phaseOk, pitchOk, stretchOk, countsOk, phasesOk, rulesOf, keepsRules, voiceOf, withState, firstState}
 use Rattle.player.specs.Sound.{sidesAt, stretchAt, stepAt, movedPhases, moved}
+use Rattle.player.specs.Bands.{allLive, ticking}
 use Rattle.player.specs.Block.{stateAt, blockEnd}
 use Rattle.player.specs.inner.Passes.{EntriesFit}
 use Rattle.voice.specs.Question.{ask, accepted, callQuestion, playQuestion}
@@ -28,6 +29,7 @@ use Rattle.voice.specs.declared.voice.State.{State}
 use Rattle.voice.specs.declared.voice.Voice.{Voice}
 use Rattle.voice.proofs.Loops.{every-at, at-every}
 use Rattle.voice.proofs.QuestionLaws.{kept, counts-are, call-accepted}
+use Rattle.player.proofs.BandLaws.{ticking-rules}
 use Rattle.player.proofs.PhaseLaws.{step-step}
 use Rattle.player.proofs.RangeLaws.{advance-ok, phase-passes}
 use Rattle.player.proofs.SoundLaws.{cleaned-within, voice-fits, frequencies-fit}
@@ -152,17 +154,35 @@ first-ok m h = at-every (λ i. phaseOk (getD (firstState .phases) i nan)) m (λ 
     zero-ok : phaseOk (nearest 0 1) ≡ true
     zero-ok = unfold round le lt eq in refl
 
+-- as it is played, a voice has as many phases and entries as it has
+ticking-phases : (v : Voice) → ticking v .set .m ≡ v .set .m
+ticking-phases v = pick-both (eqb (v .set .blend) 0)
+  where
+    pick-both : (b : Bool) → pick b (allLive (v .set)) (v .set) .m ≡ v .set .m
+    pick-both true = refl
+    pick-both false = refl
+
+ticking-32 : (v : Voice) → VoiceF32 v → VoiceF32 (ticking v)
+ticking-32 v W = pick-both (eqb (v .set .blend) 0)
+  where
+    pick-both : (b : Bool) → VoiceF32 (voiceOf (pick b (allLive (v .set)) (v .set)) (v .lists) (v .partials) (v .noise) (v .state))
+    pick-both true = record { pitches32 = W .pitches32; stretches32 = W .stretches32 }
+    pick-both false = W
+
 -- LAW: a voice that keeps the rules keeps them after a call
 pub rules-kept : (v : Voice) (c : VoiceCall) → VoiceF32 v → keepsRules v ≡ true → keepsRules (after v c) ≡ true
 unfolding after played resetOf reseedOf
 rules-kept v (playing p) W h =
     let c = callOf p in
-    accepted-rules (playQuestion v c (outLength p)) v (withState v (blockEnd v c)) h
+    accepted-rules (playQuestion v c (outLength p)) v (withState v (blockEnd (ticking v) c)) h
     (λ e.
     let n = c .shape .samples in
     let A = call-accepted c (outLength p) (sym (question-call v c (outLength p) h) ∙ e) in
-    rules-with v (blockEnd v c) h
-    (stateAt-ok v (voice-fits v h .entries) W (frequencyAt c 0) n (frequencies-fit (c .shape .freq) n 0 (c .freq) (A .frequencies)) (frequency-fits p 0) (phases-of v h)))
+    let w = ticking v in
+    let k = ticking-rules v h in
+    rules-with v (blockEnd w c) h
+    (rw (← ticking-phases v)
+    (stateAt-ok w (voice-fits w k .entries) (ticking-32 v W) (frequencyAt c 0) n (frequencies-fit (c .shape .freq) n 0 (c .freq) (A .frequencies)) (frequency-fits p 0) (phases-of w k))))
 rules-kept v resetting W h = accepted-rules (ask (keepsRules v) 13 0) v (withState v firstState) h (λ e. rules-with v firstState h (first-ok (v .set .m) (phases-most v h)))
 rules-kept v (reseeding n) W h =
     accepted-rules (ask (keepsRules v) 13 0) v (withState v (reseededState (v .state) n)) h (λ e. rules-with v (reseededState (v .state) n) h (phases-of v h))

@@ -11,3 +11,4 @@ pub mod TonePass
 pub mod NoisePass
 pub mod ChannelLaws
 pub mod PlayLaws
+pub mod BandLaws

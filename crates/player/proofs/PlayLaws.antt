@@ -7,6 +7,7 @@ use lib.Ieee.{Float}
 use Rattle.voice.specs.Input.{Call}
 use Rattle.voice.specs.Voice.{withState, stateOf}
 use Rattle.voice.specs.Question.{playQuestion, accepted}
+use Rattle.player.specs.Bands.{ticking}
 use Rattle.player.specs.Block.{blockEnd}
 use Rattle.player.specs.inner.Passes.{BlockPlayed}
 use Rattle.player.specs.Play.{played, playedOut, Plays, PlaysParts}
@@ -31,12 +32,12 @@ module _ (v : Voice) (c : Call) (out : List Float) where
   unfolding played playedOut
   parts-refused n e h = record {
     answered = e;
-    moves = rw (sym e) (ap (λ (p : Played). p .voice .state) (kept-voice n (withState v (blockEnd v c)) h));
+    moves = rw (sym e) (ap (λ (p : Played). p .voice .state) (kept-voice n (withState v (blockEnd (ticking v) c)) h));
     written = rw (sym e) (refused-out n out _ h);
   }
 
   -- LAW: an accepted one
-  pub parts-played : (r : Rng) (ps ms ys : List Float) → q ≡ 0 → BlockPlayed v c r ps ms ys → PlaysParts v c out (record { number = 0; rng = r }) ps ms ys
+  pub parts-played : (r : Rng) (ps ms ys : List Float) → q ≡ 0 → BlockPlayed (ticking v) c r ps ms ys → PlaysParts v c out (record { number = 0; rng = r }) ps ms ys
   unfolding played playedOut
   parts-played r ps ms ys z B = record { answered = rw z; moves = rw z (B .ends); written = rw z (B .written) }
 
@@ -45,7 +46,7 @@ module _ (v : Voice) (c : Call) (out : List Float) where
       → Plays v c out (record { number = m .number; voice = v }) ys
   unfolding played
   voice-refused m ps ms ys P h = record {
-    answered = rw (P .answered) (kept-voice q (withState v (blockEnd v c)) (λ z. h (P .answered ∙ z)));
+    answered = rw (P .answered) (kept-voice q (withState v (blockEnd (ticking v) c)) (λ z. h (P .answered ∙ z)));
     written = P .written;
   }
 
@@ -55,5 +56,5 @@ module _ (v : Voice) (c : Call) (out : List Float) where
   unfolding played
   voice-played m ps ms ys P e =
       let z : q ≡ 0 = sym (P .answered) ∙ e in
-      let s : stateOf ps ms (m .rng) ≡ blockEnd v c = P .moves ∙ ap (λ (n : ℕ). accepted n (withState v (blockEnd v c)) v .state) z in
+      let s : stateOf ps ms (m .rng) ≡ blockEnd (ticking v) c = P .moves ∙ ap (λ (n : ℕ). accepted n (withState v (blockEnd (ticking v) c)) v .state) z in
       record { answered = rw (e, z, s); written = P .written }

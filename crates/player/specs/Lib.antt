@@ -4,5 +4,6 @@ pub mod Fade
 pub mod Bracket
 pub mod Sound
 pub mod Block
+pub mod Bands
 pub mod Play
 pub mod inner

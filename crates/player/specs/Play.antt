@@ -7,6 +7,7 @@ use lib.Ieee.{Float}
 use Rattle.voice.specs.Input.{Call}
 use Rattle.voice.specs.Question.{playQuestion, accepted}
 use Rattle.voice.specs.Voice.{withState, stateOf}
+use Rattle.player.specs.Bands.{ticking}
 use Rattle.player.specs.Block.{blockOut, blockEnd}
 use Rattle.player.specs.declared.playing.Moved.{Moved}
 use Rattle.voice.specs.declared.answer.Played.{Played}
@@ -17,11 +18,11 @@ use Rattle.voice.specs.declared.voice.Voice.{Voice}
 unfoldable pub played : Voice → Call → ℕ → Played
 played v c len =
     let q = playQuestion v c len in
-    record { number = q; voice = accepted q (withState v (blockEnd v c)) v }
+    record { number = q; voice = accepted q (withState v (blockEnd (ticking v) c)) v }
 
 -- every sample of the output slice at exit
 unfoldable pub playedOut : Voice → Call → List Float → List Float
-playedOut v c out = accepted (playQuestion v c (length out)) (blockOut v c) out
+playedOut v c out = accepted (playQuestion v c (length out)) (blockOut (ticking v) c) out
 
 -- what a play promises, where `out` is the output at the call and `out′` at the return:
 -- of a voice by value

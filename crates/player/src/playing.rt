@@ -2,6 +2,7 @@
 ghost use Rattle.voice.specs.Input.{call};
 ghost use Rattle.voice.specs.Voice.{voiceOf, stateOf};
 ghost use Rattle.player.specs.Play.{Plays, PlaysParts};
+use crate::bands::ticking;
 use crate::block::block_of;
 use filters::Rng;
 use voice::Played;
@@ -43,8 +44,9 @@ pub fn play_parts<'a>(
     if q != 0 {
         return Moved { number: q, rng };
     }
+    let played = ticking(set);
     let end = block_of(
-        set,
+        played,
         lists,
         partials,
         noise,

@@ -5,6 +5,8 @@ use Rattle.voice.specs.Voice.{voiceOf, stateOf}
 use Rattle.voice.specs.Question.{playQuestion}
 use Rattle.voice.specs.declared.voice.Voice.{Voice}
 use Rattle.voice.proofs.QuestionLaws.{play-accepted, block-is}
+use Rattle.player.specs.Bands.{ticking}
+use Rattle.player.proofs.BandLaws.{ticking-rules, bands-most}
 use Rattle.player.proofs.SoundLaws.{voice-fits}
 use Rattle.player.proofs.PlayLaws.{parts-refused, parts-played}
 -- `play_parts` meets its contract.
@@ -28,15 +30,23 @@ returns c =
     let s = b1 .before .before .before .before .before .before .before .before in
     parts-refused (voice s) (called s) (s .args .out .now) (b1 .play-question .result) (b1 .play-question .ensures) (c .if1 .taken)
 
+ticking-requires : tie.Need-ticking-requires
+unfolding playQuestion
+ticking-requires c κs =
+    let b1 = c .before in
+    let s = b1 .before .before .before .before .before .before .before .before in
+    bands-most (voice s) (play-accepted (voice s) (called s) (length (s .args .out .now)) (sym (b1 .play-question .ensures) ∙ c .if1 .left) .0)
+
 block-of-requires : tie.Need-block-of-requires
 unfolding playQuestion
 block-of-requires c κs =
     let b3 = c .before .before .before in
     let b4 = b3 .before in
-    let s = b4 .before .before .before .before .before .before .before .before in
-    let a = play-accepted (voice s) (called s) (length (s .args .out .now)) (sym (b4 .play-question .ensures) ∙ b3 .if1 .left) in
+    let b5 = b4 .before in
+    let s = b5 .before .before .before .before .before .before .before .before in
+    let a = play-accepted (voice s) (called s) (length (s .args .out .now)) (sym (b5 .play-question .ensures) ∙ b4 .if1 .left) in
     let k = block-is (s .args .b .samples) (s .args .b .channels) (length (s .args .out .now)) (a .1 .block) in
-    (voice-fits (voice s) (a .0), record { inputs = a .1 .inputs; frequencies = a .1 .frequencies }, k .0, k .1, k .2, k .3)
+    (rw (b3 .ticking .ensures) (voice-fits (ticking (voice s)) (ticking-rules (voice s) (a .0))), record { inputs = a .1 .inputs; frequencies = a .1 .frequencies }, k .0, k .1, k .2, k .3)
 
 same-length : tie.Need-same-length
 same-length c = search needs
@@ -47,9 +57,10 @@ returns-2 c =
     let b2 = c .before .before in
     let b6 = b2 .before .before .before .before in
     let b7 = b6 .before in
-    let s = b7 .before .before .before .before .before .before .before .before in
-    parts-played (voice s) (called s) (s .args .out .now) _ _ _ _ (sym (b7 .play-question .ensures) ∙ b6 .if1 .left) (b2 .block-of .ensures)
+    let b8 = b7 .before in
+    let s = b8 .before .before .before .before .before .before .before .before in
+    parts-played (voice s) (called s) (s .args .out .now) _ _ _ _ (sym (b8 .play-question .ensures) ∙ b7 .if1 .left) (rw (b6 .ticking .ensures) at (b2 .block-of .ensures))
 
 pub play-parts-spec : {M : Type 1} → statement M
 play-parts-spec =
-    tie.close (tie.spec play-question-requires returns block-of-requires same-length returns-2)
+    tie.close (tie.spec play-question-requires returns ticking-requires block-of-requires same-length returns-2)
