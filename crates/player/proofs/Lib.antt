@@ -4,6 +4,7 @@ pub mod ColumnLaws
 pub mod RangeLaws
 pub mod BracketLaws
 pub mod SoundLaws
+pub mod TermLaws
 pub mod BandColumns
 pub mod Bench
 pub mod ToneLaws

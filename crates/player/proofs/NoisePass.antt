@@ -14,9 +14,10 @@ use Rattle.voice.specs.Input.{cleaned}
 use Rattle.filters.specs.Rng.{nextBipolar}
 use Rattle.voice.specs.Voice.{pitches, noiseGains, compensations}
 use Rattle.player.specs.inner.Tuning.{NoiseTuned}
-use Rattle.player.specs.Sound.{sidesAt, noiseIn, movedMemories, movedRng, addNoiseSingle, addNoiseBlend, blendPower}
+use Rattle.player.specs.Sound.{sidesAt, noiseIn, movedMemories, movedRng}
 use Rattle.player.specs.inner.Passes.{LiveFit, rngAt, memoriesAt, noisy, noiseOut}
 use Rattle.player.specs.inner.Columns.{Memories, Coeffs, Ticked, scattered}
+use Rattle.player.specs.inner.Terms.{noiseAdded}
 use Rattle.player.specs.declared.constants.Constants.{Constants}
 use Rattle.filters.specs.declared.rng.Bipolar.{Bipolar}
 use Rattle.filters.specs.declared.rng.Rng.{Rng}
@@ -96,19 +97,13 @@ module _ (v : Voice) (K : LiveFit (v .set)) (x : Constants) (X : (x .blend ≡ v
 
     -- LAW: what is stored is the sample
     pub noisy-sounds : (h makeup : List Float) (tone y : Float) → h ≡ g i → Filled makeup (λ l. getD (compensations v) (getD (v .set .live) l 0) nan) (v .set .«live_count»)
-        → y ≡ steps (λ l y. pick (eqb (v .set .blend) 0) (addNoiseSingle y (getD rows l nan) (getD h 0 nan) (t .«noise_gain») (getD makeup l nan) (getD ys l nan)) (addNoiseBlend y (blendPower (λ q. getD rows (q * 32 + l) nan) h (v .set .k)) (t .«noise_gain») (getD makeup l nan) (getD ys l nan))) tone (v .set .«live_count»)
+        → y ≡ steps (λ l y. noiseAdded (v .set .blend) (v .set .k) rows h (t .«noise_gain») makeup ys l y) tone (v .set .«live_count»)
         → y ≡ noisy v freq g i tone
     unfolding sidesAt noisy
     noisy-sounds h makeup tone y eh M ey =
-        sum-is-sample v K (rngAt v i) (memoriesAt v i) f0 h (sidesAt v f0) (v .set .blend) (v .set .k) (v .set .«live_count») (t .«noise_gain») rows makeup ys (pick (eqb (v .set .blend) 0) 1 (v .set .k)) refl refl refl refl (U .noise-gain) one-row (λ b. all-rows b) (rw (← X .0, ← X .1) (U .rows-are)) M
+        sum-is-sample v K (rngAt v i) (memoriesAt v i) f0 h (t .«noise_gain») rows makeup ys (U .noise-gain) (rw (← X .0, ← X .1) (U .rows-are)) M
         (filtered-at v K (rngAt v i) (memoriesAt v i) (next .value) ys w1 w2 z1 z2 cs heard-noise (G .memories-are) C K1) tone y ey
         ∙ rw (ef, eh)
-      where
-        one-row : eqb (v .set .blend) 0 ≡ true → 0 < pick (eqb (v .set .blend) 0) 1 (v .set .k)
-        one-row b = rw b (omega arith)
-
-        all-rows : eqb (v .set .blend) 0 ≡ false → v .set .k ≤ pick (eqb (v .set .blend) 0) 1 (v .set .k)
-        all-rows b = rw b (omega arith)
 
 -- ---- the lists that the pass copies out of a voice's
 module _ (v : Voice) (a b : List Float) (ea : a ≡ pitches v) (eb : b ≡ noiseGains v) where

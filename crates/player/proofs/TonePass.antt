@@ -20,7 +20,7 @@ use Rattle.player.specs.Bracket.{between}
 use Rattle.voice.specs.Voice.{phaseOk, phasesOk, pitches, stretches, mainlobes}
 use Rattle.player.specs.Sound.{sidesAt, partialRow, blendCoeff, addSingle, addBlend, partialTerm, partialSum, movedPhases}
 use Rattle.player.specs.inner.Passes.{EntriesFit, phasesAt, partialsOut}
-use Rattle.player.specs.inner.Columns.{added}
+use Rattle.player.specs.inner.Terms.{partialAdded}
 use Rattle.player.specs.inner.Tuning.{PitchAt, Tuned}
 use Rattle.player.specs.declared.constants.Constants.{Constants}
 use Rattle.player.specs.declared.pitch.kept.Pitch.{Pitch}
@@ -86,7 +86,7 @@ module _ (v : Voice) (x : Constants) (X : ConstantsOf v x) (freq : ℕ → Float
 
     -- LAW: what is stored is the sum of the partials
     pub sounds : (h sines : List Float) (y : Float) → h ≡ g i → Filled sines (λ i. sineOf (getD qs i nan)) (v .set .m)
-        → y ≡ steps (λ i y. pick (eqb (v .set .blend) 0) (added y (getD rows i nan) (getD rows i nan ⊗ t .mainlobe ⊗ getD fades i nan ⊗ getD h 0 nan ⊗ getD sines i nan)) (added y (blendCoeff (λ q. getD rows (q * 32 + i) nan) h (v .set .k)) (blendCoeff (λ q. getD rows (q * 32 + i) nan) h (v .set .k) ⊗ t .mainlobe ⊗ getD fades i nan ⊗ getD sines i nan))) (nearest 0 1) (v .set .m)
+        → y ≡ steps (λ i y. partialAdded (v .set .blend) (v .set .k) rows (t .mainlobe) fades h sines i y) (nearest 0 1) (v .set .m)
         → y ≡ partialSum v (cleaned (freq i)) (g i) (phasesAt v freq i)
     sounds h sines y eh A e =
         tone-sound v f0 incs fades rows t held phases qs (G .ok) Q h sines A y e
