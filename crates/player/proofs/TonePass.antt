@@ -18,9 +18,9 @@ use Rattle.player.specs.Fade.{nyquistFade}
 use Rattle.voice.specs.Input.{cleaned}
 use Rattle.player.specs.Bracket.{between}
 use Rattle.voice.specs.Voice.{phaseOk, phasesOk, pitches, stretches, mainlobes}
-use Rattle.player.specs.Sound.{sidesAt, partialRow, blendCoeff, addSingle, addBlend, partialTerm, partialSum, movedPhases}
+use Rattle.player.specs.Sound.{sidesAt, stepAt, partialTerm, partialSum, movedPhases}
 use Rattle.player.specs.inner.Passes.{EntriesFit, phasesAt, partialsOut}
-use Rattle.player.specs.inner.Terms.{partialAdded}
+use Rattle.player.specs.inner.Terms.{partialAdded, sampleAdded}
 use Rattle.player.specs.inner.Tuning.{PitchAt, Tuned}
 use Rattle.player.specs.declared.constants.Constants.{Constants}
 use Rattle.player.specs.declared.pitch.kept.Pitch.{Pitch}
@@ -28,7 +28,9 @@ use Rattle.player.specs.declared.tuning.Tuning.{Tuning}
 use Rattle.voice.specs.declared.voice.Voice.{Voice}
 use Rattle.voice.proofs.Loops.{steps-again, every-at, at-every, mapTo-at, upTo-again, upTo-full}
 use Rattle.player.proofs.RangeLaws.{advance-ok, phase-passes, step-small}
+use Rattle.player.proofs.ColumnLaws.{steps-as}
 use Rattle.player.proofs.SoundLaws.{ConstantsOf, inverse-small, phase-inside}
+use Rattle.player.proofs.TermLaws.{partial-by-one}
 use Rattle.player.proofs.ToneLaws.{TunedTo, TunedVoice, tuned-voice, stays, untuned-none, moved-phases, phases-kept, tone-sound}
 
 -- the phases after a sample
@@ -109,11 +111,12 @@ phases-step m f0 stretch inv ps M F S I h =
 
 module _ (v : Voice) (f0 : Float) (x : Constants) (p : Pitch) (X : ConstantsOf v x) (P : PitchOf v f0 p) where
   -- LAW: what `sample_of` answers is the sum of the partials
-  pub tone-is : (g ps : List Float) (y : Float)
-      → y ≡ steps (λ i y. pick (eqb (x .blend) 0) (addSingle y (partialRow (v .partials) (p .s) 0 i) (p .mainlobe) (nyquistFade (partialFreq (i + 1) (p .f0) (p .stretch)) (x .nyquist)) (getD g 0 nan) (advanceOf (getD ps i nan) (stepOf (i + 1) (p .f0) (p .stretch) (x .inv)))) (addBlend y (blendCoeff (λ q. partialRow (v .partials) (p .s) q i) g (x .k)) (p .mainlobe) (nyquistFade (partialFreq (i + 1) (p .f0) (p .stretch)) (x .nyquist)) (advanceOf (getD ps i nan) (stepOf (i + 1) (p .f0) (p .stretch) (x .inv))))) (nearest 0 1) (x .m)
-      → y ≡ partialSum v f0 g ps
-  unfolding partialSum partialTerm
-  tone-is g ps y e = e ∙ rw (X .0, X .1, X .2, X .3, X .4, P .2, P .3, P .1, P .0)
+  pub tone-is : (g ps : List Float) (y : Float) → y ≡ steps (λ i y. sampleAdded x p (v .partials) g ps i y) (nearest 0 1) (x .m) → y ≡ partialSum v f0 g ps
+  unfolding partialSum
+  tone-is g ps y e =
+      e
+      ∙ rw (X .0, X .1, X .2, X .3, X .4, P .2, P .3, P .1, P .0)
+      (steps-as _ _ (nearest 0 1) (v .set .m) (λ i l y. partial-by-one v f0 g i y (advanceOf (getD ps i nan) (stepAt v f0 i))))
 
   -- LAW: its phases are those after the sample
   pub phases-is : (ps ls : List Float) → ls ≡ mapTo (λ i ph. advanceOf ph (stepOf (i + 1) (p .f0) (p .stretch) (x .inv))) 0 (x .m) ps → ls ≡ movedPhases v f0 ps

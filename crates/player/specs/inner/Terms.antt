@@ -10,7 +10,7 @@ use Rattle.float.specs.F32.{_⊗_, nearest}
 use Rattle.player.specs.inner.Columns.{added}
 use Rattle.player.specs.Fade.{nyquistFade}
 use Rattle.player.specs.Phase.{advanceOf, partialFreq, stepOf}
-use Rattle.player.specs.Sound.{addSingle, addBlend, blendCoeff, partialRow, addNoiseSingle, blendPower}
+use Rattle.player.specs.Sound.{addSingle, blendCoeff, partialRow, addNoiseSingle, blendPower}
 use Rattle.player.specs.declared.constants.Constants.{Constants}
 use Rattle.player.specs.declared.pitch.kept.Pitch.{Pitch}
 
@@ -41,8 +41,6 @@ noiseAdded blend k rows gains noiseGain makeup filtered l y =
 -- partial i by itself, where p is what the frequency decides and phases are those before the sample
 abbrev pub sampleAdded : Constants → Pitch → List Float → List Float → List Float → ℕ → Float → Float
 sampleAdded x p partials gains phases i y =
-    let fade = nyquistFade (partialFreq (i + 1) (p .f0) (p .stretch)) (x .nyquist) in
-    let phase = advanceOf (getD phases i nan) (stepOf (i + 1) (p .f0) (p .stretch) (x .inv)) in
-    pick (eqb (x .blend) 0)
-    (addSingle y (partialRow partials (p .s) 0 i) (p .mainlobe) fade (getD gains 0 nan) phase)
-    (addBlend y (blendCoeff (λ q. partialRow partials (p .s) q i) gains (x .k)) (p .mainlobe) fade phase)
+    addSingle y (partialCoeff (x .blend) (x .k) (λ q. partialRow partials (p .s) q i) gains) (p .mainlobe)
+    (nyquistFade (partialFreq (i + 1) (p .f0) (p .stretch)) (x .nyquist)) (termGain (x .blend) gains)
+    (advanceOf (getD phases i nan) (stepOf (i + 1) (p .f0) (p .stretch) (x .inv)))

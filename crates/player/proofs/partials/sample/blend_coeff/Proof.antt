@@ -7,8 +7,8 @@ use Rattle.voice.specs.Lists.{steps}
 use Rattle.player.specs.Sound.{blendCoeff, partialRow}
 use Rattle.voice.proofs.Loops.{steps-again, steps-full}
 use borrow.Author.Needs.{needs}
-use Rattle.player.proofs.partials.blend.blend_coeff.Statement.{statement}
-use Rattle.player.proofs.partials.blend.blend_coeff.Tie as tie
+use Rattle.player.proofs.partials.sample.blend_coeff.Statement.{statement}
+use Rattle.player.proofs.partials.sample.blend_coeff.Tie as tie
 
 abbrev Inv-loop : tie.InvT-loop
 Inv-loop partials gains k s i y₀ q₀ y q = (q ≤ k) × (y ≡ blendCoeff (λ q. partialRow partials s q i) gains q)
