@@ -3,17 +3,15 @@ use mathlib.Core.Path.{_≡_, refl, sym, ap, subst, _∙_}
 use mathlib.Core.Logic.{⊎-elim}
 use mathlib.Core.List.{List}
 use mathlib.Core.Bool.{Bool, true, false}
-use Prim.Native.Nat.{ℕ, zero, suc, _+_, _-_, _*_, _≤_, _<_}
+use Prim.Native.Nat.{ℕ, zero, suc, _+_, _-_, _*_, _<_}
 use native.Mathlib.Numerals.{add-one}
 use native.Mathlib.Nat.{eq-or-lt-of-le}
 use native.Mathlib.Omega.{arith}
 use lib.ListN.{length, getD}
 use lib.Dec.{T, eqb, ltb, eqb→eq}
-use lib.Ieee.{Float, nan, binary32, fits}
+use lib.Ieee.{Float, nan}
 use borrow.Author.Tests.{eq-eqb, ltb-true}
 use Rattle.wire.specs.Parse.{pick}
-use Rattle.float.specs.Sqrt.{sqrt}
-use Rattle.float.specs.F32.{_⊕_, _⊗_, nearest}
 use Rattle.voice.specs.Lists.{Filled, FilledRows, steps}
 use Rattle.filters.specs.Biquad.{tickOf}
 use Rattle.player.specs.Bracket.{between}
@@ -22,7 +20,6 @@ use Rattle.player.specs.Sound.{sidesAt, noiseRow, noiseIn, tickAt, noise
 use Rattle.player.specs.inner.Passes.{LiveFit}
 use Rattle.player.specs.inner.Columns.{stateOfColumns, coeffsOfRows, Memories, Coeffs, Ticked, scattered}
 use Rattle.player.specs.inner.Terms.{noiseAdded}
-use Rattle.player.specs.declared.pitch.bracket.Sides.{Sides}
 use Rattle.filters.specs.declared.biquad.BiquadState.{BiquadState}
 use Rattle.filters.specs.declared.biquad.Tick.{Tick}
 use Rattle.filters.specs.declared.rng.Rng.{Rng}

@@ -7,8 +7,8 @@ pub mod SoundLaws
 pub mod TermLaws
 pub mod BandColumns
 pub mod Bench
-pub mod ToneLaws
-pub mod TonePass
+pub mod PartialLaws
+pub mod PartialsPass
 pub mod NoisePass
 pub mod ChannelLaws
 pub mod PlayLaws

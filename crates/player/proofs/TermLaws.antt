@@ -2,11 +2,11 @@
 use mathlib.Core.Path.{_≡_, refl, sym, ap, _∙_}
 use mathlib.Core.List.{List}
 use mathlib.Core.Bool.{Bool, true, false, not}
-use Prim.Native.Nat.{ℕ, zero, suc, _+_, _*_, _<_}
+use Prim.Native.Nat.{ℕ, zero, suc, _<_}
 use native.Mathlib.Omega.{arith}
 use lib.ListN.{getD}
 use lib.Dec.{T, eqb}
-use lib.Ieee.{Float, nan, binary32, fits, eq, ne, round}
+use lib.Ieee.{Float, nan, binary32, fits, ne, round}
 use lib.Ieee.Fits.{round-fits, add-fits, mul-fits}
 use Rattle.wire.specs.Parse.{pick}
 use Rattle.float.specs.Sqrt.{sqrt}

@@ -12,12 +12,13 @@ ghost use Rattle.player.specs.Bracket.{SidesIn};
 ghost use Rattle.player.specs.inner.Columns.{LiveIn, bandTerm};
 ghost use Rattle.player.specs.inner.Terms.{noiseAdded};
 ghost use Rattle.filters.specs.Rng.{nextBipolar};
-ghost use Rattle.player.specs.Sound.{addNoiseSingle, blendPower, noiseRow, noiseIn};
+ghost use Rattle.player.specs.Sound.{blendPower, noiseRow, noiseIn};
 ghost use Rattle.voice.specs.Limits.{maxEntries, maxBands, maxBlended};
 use crate::columns::fill;
 use crate::columns::sum_of;
 use crate::input::term_gain;
 use crate::pitch::bracket::Sides;
+use crate::pitch::bracket::place_between;
 use filters::Bipolar;
 use filters::Rng;
 use voice::band_of;
@@ -51,13 +52,12 @@ fn noise_row(
     ensures { λ r. ⌜ FilledRows (now (rows .exit)) (λ q l. noiseRow (now (noise .entry)) s q (getD (now (live .entry)) l 0)) (q + 1) n ⌝ }
 {
     let places = &mut rows[..];
+    let all = &noise[..];
     let mut l = 0;
     while l < n {
         let at = q * 16 + band_of(live[l]);
-        let lo = s.lo * 64 + at;
-        let hi = s.hi * 64 + at;
         let to = q * 32 + l;
-        places[to] = float::lerp(noise[lo], noise[hi], s.t);
+        places[to] = place_between(all, s, 64, at);
         l += 1;
     }
 }

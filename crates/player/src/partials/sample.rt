@@ -2,16 +2,12 @@
 ghost use mathlib.Core.Path.{_≡_};
 ghost use mathlib.Core.Bool.{true};
 ghost use Prim.Native.Nat.{_≤_, _<_, _+_};
-ghost use lib.ListN.{getD};
-ghost use lib.Dec.{eqb};
-ghost use lib.Ieee.{nan};
-ghost use Rattle.wire.specs.Parse.{pick};
 ghost use Rattle.float.specs.Range.{Within};
 ghost use Rattle.float.specs.F32.{nearest};
 ghost use Rattle.voice.specs.Lists.{mapTo, steps};
 ghost use Rattle.wave_table.specs.Wave.{Table};
 ghost use Rattle.player.specs.Fade.{nyquistFade};
-ghost use Rattle.player.specs.Phase.{Phase, advanceOf, partialFreq, stepOf};
+ghost use Rattle.player.specs.Phase.{Phase, advanceOf, stepOf};
 ghost use Rattle.voice.specs.Voice.{phasesOk};
 ghost use Rattle.player.specs.Bracket.{SidesIn};
 ghost use Rattle.player.specs.Sound.{addSingle, blendCoeff, partialRow};
@@ -23,6 +19,7 @@ use crate::partials::fade::nyquist_fade;
 use crate::partials::phase::advance;
 use crate::partials::phase::partial_freq;
 use crate::pitch::bracket::Sides;
+use crate::pitch::bracket::place_between;
 use crate::pitch::kept::Pitch;
 use filters::sine;
 
@@ -37,13 +34,12 @@ fn blend_coeff<'a>(
     requires { ⌜ SidesIn maxEntries s ⌝ ∗ ⌜ (k ≤ maxBlended) × (i < maxPartials) ⌝ }
     ensures { λ r. ⌜ r ≡ blendCoeff (λ q. partialRow (now (partials .entry)) s q i) (now (gains .entry)) k ⌝ }
 {
+    let all = &partials[..];
     let mut y: f32 = 0.0;
     let mut q = 0;
     while q < k {
         let at = q * 32 + i;
-        let a = s.lo * 128 + at;
-        let b = s.hi * 128 + at;
-        y = y + gains[q] * float::lerp(partials[a], partials[b], s.t);
+        y = y + gains[q] * place_between(all, s, 128, at);
         q += 1;
     }
     y
@@ -62,9 +58,8 @@ fn partial_coeff<'a>(
     ensures { λ r. ⌜ r ≡ partialCoeff blend k (λ q. partialRow (now (partials .entry)) s q i) (now (gains .entry)) ⌝ }
 {
     if blend == 0 {
-        let a = s.lo * 128 + i;
-        let b = s.hi * 128 + i;
-        return float::lerp(partials[a], partials[b], s.t);
+        let all = &partials[..];
+        return place_between(all, s, 128, i);
     }
     blend_coeff(partials, gains, k, s, i)
 }

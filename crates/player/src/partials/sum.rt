@@ -2,9 +2,7 @@
 ghost use mathlib.Core.Path.{_≡_};
 ghost use Prim.Native.Nat.{_≤_, _<_, _+_, _*_};
 ghost use lib.ListN.{length, getD};
-ghost use lib.Dec.{eqb};
 ghost use lib.Ieee.{nan};
-ghost use Rattle.wire.specs.Parse.{pick};
 ghost use Rattle.float.specs.F32.{_⊕_, _⊗_, nearest};
 ghost use Rattle.voice.specs.Lists.{Filled, steps};
 ghost use Rattle.player.specs.Sound.{blendCoeff};

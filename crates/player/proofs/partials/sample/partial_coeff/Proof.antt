@@ -6,38 +6,14 @@ use borrow.Author.Needs.{needs}
 use Rattle.player.proofs.partials.sample.partial_coeff.Statement.{statement}
 use Rattle.player.proofs.partials.sample.partial_coeff.Tie as tie
 
-mul-a : tie.Need-mul-a
-mul-a c = search needs
-
-add-a : tie.Need-add-a
-add-a c = search needs
-
-mul-b : tie.Need-mul-b
-mul-b c = search needs
-
-add-b : tie.Need-add-b
-add-b c = search needs
-
-mul-lerp : tie.Need-mul-lerp
-mul-lerp c = search needs
-
-element-copy-out-lerp : tie.Need-element-copy-out-lerp
-element-copy-out-lerp c = search needs
-
-mul-lerp-2 : tie.Need-mul-lerp-2
-mul-lerp-2 c = search needs
-
-element-copy-out-lerp-2 : tie.Need-element-copy-out-lerp-2
-element-copy-out-lerp-2 c = search needs
-
-lerp-requires : tie.Need-lerp-requires
-lerp-requires c κs = search needs
+place-between-requires : tie.Need-place-between-requires
+place-between-requires c κs = search needs
 
 returns : tie.Need-returns
 returns c =
-    let b5 = c .before .before .before .before .before in
-    let a = b5 .before .args in
-    rw (eq-eqb _ _ (b5 .if1 .taken)) (c .lerp .ensures ∙ row-first (a .partials .now) (a .s) (a .i))
+    let b2 = c .before .before in
+    let a = b2 .before .args in
+    rw (eq-eqb _ _ (b2 .if1 .taken)) (c .place-between .ensures ∙ row-first (a .partials .now) (a .s) (a .i))
 
 blend-coeff-requires : tie.Need-blend-coeff-requires
 blend-coeff-requires c κs = search needs
@@ -48,18 +24,4 @@ returns-2 c =
     rw (ne-eqb _ _ (b1 .if1 .left)) (c .blend-coeff .ensures)
 
 pub partial-coeff-spec : {M : Type 1} → statement M
-partial-coeff-spec =
-    tie.close
-    (tie.spec
-    mul-a
-    add-a
-    mul-b
-    add-b
-    mul-lerp
-    element-copy-out-lerp
-    mul-lerp-2
-    element-copy-out-lerp-2
-    lerp-requires
-    returns
-    blend-coeff-requires
-    returns-2)
+partial-coeff-spec = tie.close (tie.spec place-between-requires returns blend-coeff-requires returns-2)

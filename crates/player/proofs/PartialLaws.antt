@@ -1,7 +1,7 @@
 -- The columns of a sample's partials put together to the definitions: what moves, and what is audible.
 use mathlib.Core.Path.{_≡_, refl, sym, ap, _∙_, subst}
 use mathlib.Core.List.{List, [], _∷_}
-use mathlib.Core.Bool.{Bool, true, false}
+use mathlib.Core.Bool.{Bool, true}
 use Prim.Native.Nat.{ℕ, zero, suc, _+_, _*_, _≤_, _<_}
 use native.Mathlib.Omega.{arith}
 use lib.ListN.{getD}
@@ -10,7 +10,7 @@ use lib.Ieee.{Float, nan, inf, fin, binary32, eq, fits, le}
 use Rattle.wire.specs.Parse.{pick}
 use Rattle.float.specs.Range.{Within}
 use Rattle.float.proofs.Identities.{same-float}
-use Rattle.float.specs.F32.{_⊕_, _⊗_, nearest}
+use Rattle.float.specs.F32.{nearest}
 use Rattle.voice.specs.Lists.{Filled, FilledRows, mapTo, steps, every}
 use Rattle.filters.specs.Wave.{sineOf}
 use Rattle.player.specs.Phase.{AllPhases, AllSteps, Phase, Step, advanceOf, partialFreq, stepOf}
@@ -122,9 +122,9 @@ module _ (v : Voice) (f0 : Float) (incs fades rows : List Float) (t : Tuning) (T
         (partial-by-one v f0 g i y (advanceOf (getD ps i nan) (stepAt v f0 i)))
 
     -- LAW: what `partial_sum` ensures is the sum of the partials
-    pub tone-sound : (y : Float) → y ≡ steps (λ i y. partialAdded (v .set .blend) (v .set .k) rows (t .mainlobe) fades g sines i y) (nearest 0 1) (v .set .m) → y ≡ partialSum v f0 g ps
+    pub partial-sum-is : (y : Float) → y ≡ steps (λ i y. partialAdded (v .set .blend) (v .set .k) rows (t .mainlobe) fades g sines i y) (nearest 0 1) (v .set .m) → y ≡ partialSum v f0 g ps
     unfolding partialSum
-    tone-sound y e = e ∙ steps-as _ _ (nearest 0 1) (v .set .m) each
+    partial-sum-is y e = e ∙ steps-as _ _ (nearest 0 1) (v .set .m) each
 
 -- ---- columns that are filled anew
 module _ (x : Constants) (count : ℕ) (pitches stretches mainlobes partials : List Float) (f0 : Float) (p : Pitch)
