@@ -6,7 +6,7 @@ use native.Mathlib.Omega.{arith}
 use mathlib.Core.Bool.{Bool, true, false, _&&_}
 use lib.IntN.{ℤ, pos}
 use lib.Dec.{T, ltb, ltb→lt, eqb, eqb→eq, not-T}
-use lib.Ieee.{Float, nan, inf, fin, binary32, up, down, round, sum, add, neg, eq, fits}
+use lib.Ieee.{Float, nan, inf, fin, binary32, up, down, round, sum, add, mul, neg, eq, fits}
 use lib.Ieee.Bits.{cond-no}
 use lib.Ieee.Fits.{and-l, neg-fits}
 use lib.Ieee.Positive.{num, den}
@@ -59,6 +59,15 @@ add-minus-zero nan t = refl
 add-minus-zero (inf s) t = refl
 add-minus-zero (fin false m e) t = less-none (m * up e * 1) (0 * 1 * down e) (down e * 1) (zero-mul (down e)) ∙ rounded m e false (m * up e * 1) t (once (m * up e))
 add-minus-zero (fin true m e) t = rounded m e true (m * up e * 1 + 0 * 1 * down e) t (plus-none (m * up e) (0 * 1 * down e) (zero-mul (down e)))
+
+-- ---- 1 multiplied
+pub mul-one : (x : Float) → T (fits binary32 x) → mul binary32 x (fin false 1 (pos 0)) ≡ x
+unfolding mul
+mul-one nan t = refl
+mul-one (inf false) t = refl
+mul-one (inf true) t = refl
+mul-one (fin false m e) t = rounded m e false (m * up e * 1) t (once (m * up e))
+mul-one (fin true m e) t = rounded m e true (m * up e * 1) t (once (m * up e))
 
 -- ---- floats with no sign that compare equal
 level : (x y : Float) → T (plain x) → T (plain y) → T (eq x y) → num x * den y ≡ num y * den x

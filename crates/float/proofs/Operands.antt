@@ -55,6 +55,9 @@ is-level s e = ap (λ (z : ℕ). eqb z (0 * 1 * down e) && (Bool·beq s false ||
     last true = refl
     last false = refl
 
+apart : (s : Bool) (m : ℕ) (e : ℤ) → eq (fin s (suc m) e) none ≡ false
+apart s m e = is-false (eq (fin s (suc m) e) none) (not-T (eq (fin s (suc m) e) none) (λ t. not-level s m e (is-true (eq (fin s (suc m) e) none) t)))
+
 clash : {A : Type 0} → true ≡ false → A
 clash h = absurd (subst T h tt)
 
@@ -97,6 +100,23 @@ positive-sqrt (inf s) p = absurd p
 positive-sqrt (fin true m e) p = absurd p
 positive-sqrt (fin false zero e) p = absurd p
 positive-sqrt (fin false (suc m) e) p = refl
+
+-- a positive float is no zero, and of the others the root is 0 exactly where they are
+pub positive-apart : (x : Float) → T (positive x) → eq x none ≡ false
+positive-apart nan p = absurd p
+positive-apart (inf s) p = absurd p
+positive-apart (fin true m e) p = absurd p
+positive-apart (fin false zero e) p = absurd p
+positive-apart (fin false (suc m) e) p = apart false m e
+
+pub other-alike : (x : Float) → (T (positive x) → ⊥) → eq (sqrt x) none ≡ eq x none
+unfolding sqrt eq
+other-alike nan p = refl
+other-alike (inf true) p = refl
+other-alike (inf false) p = refl
+other-alike (fin s zero e) p = refl
+other-alike (fin true (suc m) e) p = sym (apart true m e)
+other-alike (fin false (suc m) e) p = absurd (p (lt→ltb 0 (suc m) (zero-lt-suc m)))
 
 -- ---- between the smallest normal float and the largest of all
 abbrev pub largest : Float

@@ -1,22 +1,24 @@
--- Bounds of a square root: z is a float, and what is at most z * z has a root of at most z; the same from below. Assumes nothing.
-use mathlib.Core.Path.{_≡_, sym, ap, _∙_}
+-- Bounds of a square root: z is a float, and what is at most z * z has a root of at most z; the same from below; and a root is 0 only where its operand is. Assumes nothing.
+use mathlib.Core.Path.{_≡_, refl, sym, ap, _∙_, subst}
 use mathlib.Core.Logic.{_⊎_, inl, inr}
 use Prim.Native.Nat.{ℕ, zero, suc, _+_, _*_, _^_, _≤_, _<_}
-use native.Mathlib.Nat.{le-trans, le-of-eq, le-of-lt, lt-of-lt-of-le, lt-irrefl, mul-le-mul, mul-le-mul-left, mul-le-mul-right, mul-assoc, mul-pos, mul-mul-mul-comm, le-of-mul-le-mul-right, zero-lt-suc, zero-mul}
+use native.Mathlib.Nat.{le-trans, le-of-eq, le-of-lt, lt-of-lt-of-le, lt-irrefl, mul-le-mul, mul-le-mul-left, mul-le-mul-right, mul-assoc, mul-pos, mul-mul-mul-comm, le-of-mul-le-mul-right, zero-lt-suc, zero-mul, eq-zero-or-pos}
 use native.Mathlib.Omega.{arith}
-use mathlib.Core.Bool.{true, false}
+use mathlib.Core.Bool.{Bool, true, false}
+use lib.IntN.{negsuc}
 use lib.Dec.{T, lt→ltb}
 use lib.Pow.{pow-pos}
-use lib.Ieee.{Float, nan, inf, fin, binary32, up, down, fits}
+use lib.Ieee.{Float, nan, inf, fin, binary32, up, down, eq, fits}
 use lib.Ieee.Exact.{HasValue}
 use lib.Ieee.Order.{transfer}
-use lib.Ieee.Positive.{num, den, den-pos, positive}
+use lib.Ieee.Positive.{num, den, den-pos, positive, positive-of-value, value-pos}
 use Rattle.float.specs.Range.{plain, Within, AtLeast}
-use Rattle.float.specs.Sqrt.{sqrt}
+use Rattle.float.specs.Sqrt.{none, sqrt}
 use Rattle.float.specs.Nearest.{NearestRoot}
 use Rattle.float.proofs.Within.{value-plain, value-cross, value-within}
 use Rattle.float.proofs.Bounds.{le-or-lt}
 use Rattle.float.proofs.Patterns.{plain-pattern}
+use Rattle.float.proofs.Operands.{positive-apart, other-alike}
 use Rattle.float.proofs.Nearest.{sqrt-nearest}
 
 -- ---- in units of 2 ^ -149: the square of z, and x in squares of units
@@ -105,3 +107,29 @@ sqrt-plain (fin false zero e) t p = tt
 sqrt-plain (fin false (suc m) e) t p =
     let N = sqrt-nearest (fin false (suc m) e) t (lt→ltb 0 (suc m) (zero-lt-suc m)) in
     value-plain (sqrt (fin false (suc m) e)) (N .R) (2 ^ 149) (N .result)
+
+-- the root of a positive float is positive: were it 0, the smallest positive float would be nearer
+positive-root : (x : Float) → T (fits binary32 x) → T (positive x) → T (positive (sqrt x))
+unfolding fits
+positive-root x t p =
+    let N = sqrt-nearest x t p in
+    let unit : HasValue (fin false 1 (negsuc 148)) false 1 (2 ^ 149) = (refl, refl) in
+    positive-of-value (sqrt x) (N .R) (2 ^ 149) (N .result) (some N (N .higher (fin false 1 (negsuc 148)) 1 tt unit) (eq-zero-or-pos (N .R)))
+  where
+    units : (N : NearestRoot x (sqrt x)) → 0 < N .X
+    units N = value-pos x (N .X) (2 ^ 149) p (pow-pos 149) (N .value)
+
+    none-less : (a : ℕ) → 0 < a → 4 * a < 1 → ⊥
+    none-less a h k = omega arith
+
+    some : (N : NearestRoot x (sqrt x)) → (N .R < 1 → 4 * (N .X * 2 ^ 149) < (1 + N .R) * (1 + N .R)) → (N .R ≡ 0) ⊎ (0 < N .R) → 0 < N .R
+    some N h (inl e) = absurd (none-less (N .X * 2 ^ 149) (mul-pos (units N) (pow-pos 149)) (subst (λ (r : ℕ). 4 * (N .X * 2 ^ 149) < (1 + r) * (1 + r)) e (h (subst (λ (r : ℕ). r < 1) (sym e) (zero-lt-suc 0)))))
+    some N h (inr l) = l
+
+-- LAW: a root is 0 exactly where its operand is
+pub sqrt-zero-alike : (x : Float) → T (fits binary32 x) → eq (sqrt x) none ≡ eq x none
+sqrt-zero-alike x t = go (positive x) refl
+  where
+    go : (b : Bool) → positive x ≡ b → eq (sqrt x) none ≡ eq x none
+    go true e = let p = subst T (sym e) tt in positive-apart (sqrt x) (positive-root x t p) ∙ sym (positive-apart x p)
+    go false e = other-alike x (λ (p : T (positive x)). subst T e p)

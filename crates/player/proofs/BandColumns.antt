@@ -3,46 +3,31 @@ use mathlib.Core.Path.{_≡_, refl, sym, ap, subst, _∙_}
 use mathlib.Core.Logic.{⊎-elim}
 use mathlib.Core.List.{List}
 use mathlib.Core.Bool.{Bool, true, false}
-use Prim.Native.Nat.{ℕ, zero, suc, _+_, _-_, _*_, _≤_, _<_}
+use Prim.Native.Nat.{ℕ, zero, suc, _+_, _-_, _*_, _<_}
 use native.Mathlib.Numerals.{add-one}
 use native.Mathlib.Nat.{eq-or-lt-of-le}
 use native.Mathlib.Omega.{arith}
 use lib.ListN.{length, getD}
 use lib.Dec.{T, eqb, ltb, eqb→eq}
-use lib.Ieee.{Float, nan, binary32, fits}
+use lib.Ieee.{Float, nan}
 use borrow.Author.Tests.{eq-eqb, ltb-true}
 use Rattle.wire.specs.Parse.{pick}
-use Rattle.float.specs.Sqrt.{sqrt}
-use Rattle.float.specs.F32.{_⊕_, _⊗_, nearest}
 use Rattle.voice.specs.Lists.{Filled, FilledRows, steps}
 use Rattle.filters.specs.Biquad.{tickOf}
 use Rattle.player.specs.Bracket.{between}
 use Rattle.voice.specs.Voice.{noiseGains, compensations, bandAt, memoryAt, withMemory}
-use Rattle.player.specs.Sound.{sidesAt, noiseRow, noiseIn, tickAt, addNoiseSingle, addNoiseBlend, blendPower, noiseTerm, noiseSum, movedMemories}
+use Rattle.player.specs.Sound.{sidesAt, noiseRow, noiseIn, tickAt, noiseTerm, noiseSum, movedMemories}
 use Rattle.player.specs.inner.Passes.{LiveFit}
-use Rattle.player.specs.inner.Columns.{stateOfColumns, coeffsOfRows, Memories, Coeffs, Ticked, scattered, singleTerm, blendTerm}
-use Rattle.player.specs.declared.pitch.bracket.Sides.{Sides}
+use Rattle.player.specs.inner.Columns.{stateOfColumns, coeffsOfRows, Memories, Coeffs, Ticked, scattered}
+use Rattle.player.specs.inner.Terms.{noiseAdded}
 use Rattle.filters.specs.declared.biquad.BiquadState.{BiquadState}
 use Rattle.filters.specs.declared.biquad.Tick.{Tick}
 use Rattle.filters.specs.declared.rng.Rng.{Rng}
 use Rattle.voice.specs.declared.voice.Voice.{Voice}
 use Rattle.voice.proofs.Loops.{every-at}
 use Rattle.voice.proofs.MemoryLaws.{length-with, memory-written, memory-kept, memories-same}
-use Rattle.player.proofs.ColumnLaws.{add-heard, steps-as}
-
--- ---- what is stored as a term, added
-pub single-adds : (y coeff gain noiseGain makeup filtered : Float) → T (fits binary32 y) → y ⊕ singleTerm coeff gain noiseGain makeup filtered ≡ addNoiseSingle y coeff gain noiseGain makeup filtered
-unfolding singleTerm addNoiseSingle
-single-adds y coeff gain noiseGain makeup filtered h = add-heard y coeff (coeff ⊗ noiseGain ⊗ gain ⊗ makeup ⊗ filtered) h
-
-pub blend-adds : (y power noiseGain makeup filtered : Float) → T (fits binary32 y) → y ⊕ blendTerm power (sqrt power) noiseGain makeup filtered ≡ addNoiseBlend y power noiseGain makeup filtered
-unfolding blendTerm addNoiseBlend
-blend-adds y power noiseGain makeup filtered h = add-heard y power (sqrt power ⊗ noiseGain ⊗ makeup ⊗ filtered) h
-
--- the same, from what the loops over the powers, the roots and the terms leave at a place
-pub stored-adds : (y term root power sum noiseGain makeup filtered : Float) → T (fits binary32 y) → term ≡ blendTerm power root noiseGain makeup filtered → root ≡ sqrt power → power ≡ sum
-    → y ⊕ term ≡ addNoiseBlend y sum noiseGain makeup filtered
-stored-adds y term root power sum noiseGain makeup filtered h et er ep = rw (et, er, ep) (blend-adds y sum noiseGain makeup filtered h)
+use Rattle.player.proofs.ColumnLaws.{steps-as}
+use Rattle.player.proofs.TermLaws.{noise-by-one, band-coeff-as}
 
 -- ---- the coefficients of the live bands
 -- row q holds coefficient q of each
@@ -179,43 +164,16 @@ module _ (v : Voice) (K : LiveFit (v .set)) where
     filtered-at l h = ap (λ (t : Tick). t .y) (ticked-at l h)
 
   -- ---- the sum of a sample, where the columns are those of f0 and g
-  module _ (r : Rng) (ms : List Float) (f0 : Float) (g : List Float) (sides : Sides) (blend k n : ℕ) (noiseGain : Float) (rows makeup ys : List Float) (rowCount : ℕ)
-      (es : sides ≡ sidesAt v f0) (eb : blend ≡ v .set .blend) (ek : k ≡ v .set .k) (en : n ≡ v .set .«live_count») (eg : noiseGain ≡ between (noiseGains v) sides)
-      (single : eqb blend 0 ≡ true → 0 < rowCount) (blended : eqb blend 0 ≡ false → k ≤ rowCount)
-      (R : FilledRows rows (λ q l. noiseRow (v .noise) sides q (getD (v .set .live) l 0)) rowCount n)
-      (M : Filled makeup (λ l. getD (compensations v) (getD (v .set .live) l 0) nan) n)
-      (Y : (l : ℕ) → l < v .set .«live_count» → getD ys l nan ≡ tickAt v (noiseIn r) ms (getD (v .set .live) l 0) .y) where
-    abbrev termOf : ℕ → Float → Float
-    termOf l y =
-        pick (eqb blend 0) (addNoiseSingle y (getD rows l nan) (getD g 0 nan) noiseGain (getD makeup l nan) (getD ys l nan))
-        (addNoiseBlend y (blendPower (λ q. getD rows (q * 32 + l) nan) g k) noiseGain (getD makeup l nan) (getD ys l nan))
-
-    -- the row of a single voice, and the power of a blend
-    row-is : (l : ℕ) → l < n → 0 < rowCount → getD rows l nan ≡ noiseRow (v .noise) sides 0 (band l)
-    row-is l h p = let e : l ≡ 0 * 32 + l = omega arith in ap (λ (i : ℕ). getD rows i nan) e ∙ R .at 0 l p h
-
-    power-is : (l : ℕ) → l < n → k ≤ rowCount → blendPower (λ q. getD rows (q * 32 + l) nan) g k ≡ blendPower (λ q. noiseRow (v .noise) sides q (band l)) g k
-    unfolding blendPower
-    power-is l h p = steps-as _ _ (nearest 0 1) k (λ q a y. ap (λ (z : Float). y ⊕ (getD g q nan ⊗ z) ⊗ (getD g q nan ⊗ z)) (R .at q l (omega arith) h))
-
-    term-is : (l : ℕ) → l < n → (y : Float) → termOf l y ≡ noiseTerm v f0 g (band l) y (tickAt v (noiseIn r) ms (band l) .y)
-    unfolding noiseTerm
-    term-is l h y = go (eqb blend 0) refl ∙ rw (eb, ek, eg, es)
-      where
-        filtered : getD ys l nan ≡ tickAt v (noiseIn r) ms (band l) .y
-        filtered = Y l (omega arith)
-
-        go : (t : Bool) → eqb blend 0 ≡ t
-            → pick t (addNoiseSingle y (getD rows l nan) (getD g 0 nan) noiseGain (getD makeup l nan) (getD ys l nan)) (addNoiseBlend y (blendPower (λ q. getD rows (q * 32 + l) nan) g k) noiseGain (getD makeup l nan) (getD ys l nan))
-            ≡ pick (eqb blend 0) (addNoiseSingle y (noiseRow (v .noise) sides 0 (band l)) (getD g 0 nan) noiseGain (getD (compensations v) (band l) nan) (tickAt v (noiseIn r) ms (band l) .y))
-            (addNoiseBlend y (blendPower (λ q. noiseRow (v .noise) sides q (band l)) g k) noiseGain (getD (compensations v) (band l) nan) (tickAt v (noiseIn r) ms (band l) .y))
-        go true e = rw (e, row-is l h (single e), M .at l h, filtered)
-        go false e = rw (e, power-is l h (blended e), M .at l h, filtered)
+  module _ (r : Rng) (ms : List Float) (f0 : Float) (g : List Float) (noiseGain : Float) (rows makeup ys : List Float) (eg : noiseGain ≡ between (noiseGains v) (sidesAt v f0))
+      (R : FilledRows rows (λ q l. noiseRow (v .noise) (sidesAt v f0) q (band l)) (pick (eqb (v .set .blend) 0) 1 (v .set .k)) (v .set .«live_count»))
+      (M : Filled makeup (λ l. getD (compensations v) (band l) nan) (v .set .«live_count»))
+      (Y : (l : ℕ) → l < v .set .«live_count» → getD ys l nan ≡ tickAt v (noiseIn r) ms (band l) .y) where
+    term-is : (l : ℕ) → l < v .set .«live_count» → (y : Float) → noiseAdded (v .set .blend) (v .set .k) rows g noiseGain makeup ys l y ≡ noiseTerm v f0 g (band l) y (tickAt v (noiseIn r) ms (band l) .y)
+    term-is l h y =
+        rw (band-coeff-as (v .set .blend) (v .set .k) (λ q. getD rows (q * 32 + l) nan) (λ q. noiseRow (v .noise) (sidesAt v f0) q (band l)) g (λ q a. R .at q l a h), eg, M .at l h, Y l h)
+        (noise-by-one v f0 g (band l) y (tickAt v (noiseIn r) ms (band l) .y))
 
     -- LAW: what `noise_sum` ensures is the sample
-    pub sum-is-sample : (y z : Float) → z ≡ steps termOf y n → z ≡ noiseSum v f0 g r ms y
+    pub sum-is-sample : (y z : Float) → z ≡ steps (λ l y. noiseAdded (v .set .blend) (v .set .k) rows g noiseGain makeup ys l y) y (v .set .«live_count») → z ≡ noiseSum v f0 g r ms y
     unfolding noiseSum
-    sum-is-sample y z ez =
-        ez
-        ∙ steps-as termOf (λ l y. noiseTerm v f0 g (band l) y (tickAt v (noiseIn r) ms (band l) .y)) y n term-is
-        ∙ ap (λ (m : ℕ). steps (λ l y. noiseTerm v f0 g (band l) y (tickAt v (noiseIn r) ms (band l) .y)) y m) en
+    sum-is-sample y z e = e ∙ steps-as _ _ y (v .set .«live_count») term-is

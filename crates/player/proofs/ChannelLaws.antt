@@ -39,9 +39,9 @@ module _ (v : Voice) (freq : ℕ → Float) (g : ℕ → List Float) where
   unfolding noiseOut channelOut
   out-is N n = upTo-as _ _ n (λ i l. audible N n i l)
 
-  pub length-tones : (n : ℕ) → length (partialsOut v freq g n) ≡ n
+  pub length-partials : (n : ℕ) → length (partialsOut v freq g n) ≡ n
   unfolding partialsOut
-  length-tones n = length-upTo (λ i. partialSum v (cleaned (freq i)) (g i) (phasesAt v freq i)) n
+  length-partials n = length-upTo (λ i. partialSum v (cleaned (freq i)) (g i) (phasesAt v freq i)) n
 
   -- ---- a voice with no live band: the second pass changes nothing
   pub same-rng : v .set .«live_count» ≡ 0 → (n : ℕ) → v .state .rng ≡ rngAt v n
@@ -61,28 +61,28 @@ module _ (v : Voice) (freq : ℕ → Float) (g : ℕ → List Float) where
   unfolding phasesAt movedPhases mapTo
   same-phases e n = rw e (sym (steps-same (v .state .phases) n))
 
-  pub no-tones : v .set .m ≡ 0 → (n : ℕ) → upTo (λ i. nearest 0 1) n ≡ partialsOut v freq g n
+  pub no-partials : v .set .m ≡ 0 → (n : ℕ) → upTo (λ i. nearest 0 1) n ≡ partialsOut v freq g n
   unfolding partialsOut partialSum steps
-  no-tones e n = rw e
+  no-partials e n = rw e
 
 -- ---- the voices of the two passes
 module _ (set : Setting) (lists partials noise phases memories : List Float) (rng : Rng) (freq : ℕ → Float) (g : ℕ → List Float) (n : ℕ) where
   abbrev whole : Voice
   whole = voiceOf set lists partials noise (stateOf phases memories rng)
 
-  abbrev tonal : Voice
-  tonal = partialsVoice set lists partials phases
+  abbrev ofPartials : Voice
+  ofPartials = partialsVoice set lists partials phases
 
   abbrev noisal : Voice
   noisal = noiseVoice set lists noise memories rng
 
-  tonal-phases : phasesAt tonal freq n ≡ phasesAt whole freq n
+  ofPartials-phases : phasesAt ofPartials freq n ≡ phasesAt whole freq n
   unfolding phasesAt movedPhases sidesAt
-  tonal-phases = refl
+  ofPartials-phases = refl
 
-  tonal-out : partialsOut tonal freq g n ≡ partialsOut whole freq g n
+  ofPartials-out : partialsOut ofPartials freq g n ≡ partialsOut whole freq g n
   unfolding partialsOut phasesAt movedPhases partialSum partialTerm sidesAt
-  tonal-out = refl
+  ofPartials-out = refl
 
   noisal-rng : rngAt noisal n ≡ rngAt whole n
   unfolding rngAt movedRng
@@ -104,27 +104,27 @@ module _ (set : Setting) (lists partials noise phases memories : List Float) (rn
   ends-still C ys e = record { ends = still whole freq g n C; written = e ∙ silent whole freq g n C }
 
   -- the first pass writes every sample
-  pub sized : (ys : List Float) → ys ≡ partialsOut tonal freq g n → length ys ≡ n
-  sized ys e = ap (λ (z : List Float). length z) e ∙ length-tones tonal freq g n
+  pub sized : (ys : List Float) → ys ≡ partialsOut ofPartials freq g n → length ys ≡ n
+  sized ys e = ap (λ (z : List Float). length z) e ∙ length-partials ofPartials freq g n
 
   -- the state that both passes leave
   left : eqb (set .count) 0 ≡ false → (r : Rng) (ps ms : List Float) → ps ≡ phasesAt whole freq n → ms ≡ memoriesAt whole n → r ≡ rngAt whole n → stateOf ps ms r ≡ stateAt whole freq n
   left N r ps ms ep em er = rw (ep, em, er) (sym (state-is whole freq g N n))
 
   -- LAW: no live band: the first pass is all
-  pub ends-tones : eqb (set .count) 0 ≡ false → set .«live_count» ≡ 0 → (ps ys : List Float) → PartialsPlayed tonal freq g n ps ys → Ends rng ps memories ys
-  ends-tones N L ps ys P = record {
-    ends = left N rng ps memories (P .moves ∙ tonal-phases) (same-memories whole freq g L n) (same-rng whole freq g L n);
-    written = same-out whole freq g L ys n (sized ys (P .written)) ∙ ap (λ (z : List Float). noiseOut whole freq g z n) (P .written ∙ tonal-out) ∙ out-is whole freq g N n;
+  pub ends-partials : eqb (set .count) 0 ≡ false → set .«live_count» ≡ 0 → (ps ys : List Float) → PartialsPlayed ofPartials freq g n ps ys → Ends rng ps memories ys
+  ends-partials N L ps ys P = record {
+    ends = left N rng ps memories (P .moves ∙ ofPartials-phases) (same-memories whole freq g L n) (same-rng whole freq g L n);
+    written = same-out whole freq g L ys n (sized ys (P .written)) ∙ ap (λ (z : List Float). noiseOut whole freq g z n) (P .written ∙ ofPartials-out) ∙ out-is whole freq g N n;
   }
 
   -- LAW: both passes
-  pub ends-noisy : eqb (set .count) 0 ≡ false → (r : Rng) (ps ms ys zs : List Float) → PartialsPlayed tonal freq g n ps ys → NoisePlayed noisal freq g ys (length ys) r ms zs → Ends r ps ms zs
+  pub ends-noisy : eqb (set .count) 0 ≡ false → (r : Rng) (ps ms ys zs : List Float) → PartialsPlayed ofPartials freq g n ps ys → NoisePlayed noisal freq g ys (length ys) r ms zs → Ends r ps ms zs
   ends-noisy N r ps ms ys zs P Q =
       let e = sized ys (P .written) in
       record {
-        ends = left N r ps ms (P .moves ∙ tonal-phases) (Q .rings ∙ ap (λ (k : ℕ). memoriesAt noisal k) e ∙ noisal-memories) (Q .steps-on ∙ ap (λ (k : ℕ). rngAt noisal k) e ∙ noisal-rng);
-        written = Q .written ∙ ap (λ (k : ℕ). noiseOut noisal freq g ys k) e ∙ noisal-out ys ∙ ap (λ (z : List Float). noiseOut whole freq g z n) (P .written ∙ tonal-out) ∙ out-is whole freq g N n;
+        ends = left N r ps ms (P .moves ∙ ofPartials-phases) (Q .rings ∙ ap (λ (k : ℕ). memoriesAt noisal k) e ∙ noisal-memories) (Q .steps-on ∙ ap (λ (k : ℕ). rngAt noisal k) e ∙ noisal-rng);
+        written = Q .written ∙ ap (λ (k : ℕ). noiseOut noisal freq g ys k) e ∙ noisal-out ys ∙ ap (λ (z : List Float). noiseOut whole freq g z n) (P .written ∙ ofPartials-out) ∙ out-is whole freq g N n;
       }
 
 -- LAW: a channel that reads the parts of a call's inputs is the call's

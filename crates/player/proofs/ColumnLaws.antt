@@ -82,6 +82,10 @@ sum-is xs g y zero h e = refl
 sum-is xs g y (suc n) h e = e n (omega arith) _ (sum-fits xs y n h) ∙ ap (g n) (sum-is xs g y n h (λ i l. e i (omega arith)))
 
 -- ---- rows of 32 places
+-- the first starts at place 0
+pub first-row : (xs : List Float) (i : ℕ) → getD xs (0 * 32 + i) nan ≡ getD xs i nan
+first-row xs i = let e : 0 * 32 + i ≡ i = omega arith in ap (λ (z : ℕ). getD xs z nan) e
+
 -- row q is filled up to place l
 pub record RowFilled (xs : List Float) (f : ℕ → Float) (q l : ℕ) : Type 0 where
   pub at : (i : ℕ) → i < l → getD xs (q * 32 + i) nan ≡ f i

@@ -4,10 +4,11 @@ pub mod ColumnLaws
 pub mod RangeLaws
 pub mod BracketLaws
 pub mod SoundLaws
+pub mod TermLaws
 pub mod BandColumns
 pub mod Bench
-pub mod ToneLaws
-pub mod TonePass
+pub mod PartialLaws
+pub mod PartialsPass
 pub mod NoisePass
 pub mod ChannelLaws
 pub mod PlayLaws

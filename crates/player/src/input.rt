@@ -7,6 +7,7 @@ ghost use lib.ListN.{length, getD};
 ghost use lib.Dec.{eqb};
 ghost use lib.Ieee.{nan};
 ghost use Rattle.voice.specs.Input.{inputOk, partOf, frequencyOf, gainsOf, cleaned};
+ghost use Rattle.player.specs.inner.Terms.{termGain};
 
 // Input channel ch modulo k. The division is asked for only where it is needed: it costs as much as a short block's sample.
 fn row_of(k: usize, ch: usize) -> usize
@@ -73,4 +74,12 @@ pub fn gains_for(blend: u32, g0: &[f32], g1: &[f32], g2: &[f32], g3: &[f32], i: 
         return [a, 0.0, 0.0, 0.0];
     }
     gains_at(g0, g1, g2, g3, i)
+}
+
+// What a term is multiplied by beside its coefficient: of a single voice gain 0, of a blend 1, since the gains are in its coefficients.
+pub fn term_gain(blend: u32, gains: &[f32; 4]) -> f32
+    ensures { λ r. ⌜ r ≡ termGain blend (now (gains .entry)) ⌝ }
+{
+    let gain = gains[0];
+    if blend == 0 { gain } else { 1.0 }
 }

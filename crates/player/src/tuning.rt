@@ -23,6 +23,7 @@ use crate::noise::sum::noise_rows;
 use crate::partials::fade::nyquist_fade;
 use crate::partials::phase::partial_freq;
 use crate::pitch::bracket::Sides;
+use crate::pitch::bracket::place_between;
 use crate::pitch::bracket::sides_at;
 use crate::pitch::bracket::value_between;
 use crate::pitch::kept::pitch_at;
@@ -94,12 +95,11 @@ fn row_of(rows: &mut [f32; 128], partials: &[f32; 2048], s: Sides, q: usize, m: 
     ensures { λ r. ⌜ FilledRows (now (rows .exit)) (λ q i. partialRow (now (partials .entry)) s q i) (q + 1) m ⌝ }
 {
     let places = &mut rows[..];
+    let all = &partials[..];
     let mut i = 0;
     while i < m {
         let at = q * 32 + i;
-        let a = s.lo * 128 + at;
-        let b = s.hi * 128 + at;
-        places[at] = float::lerp(partials[a], partials[b], s.t);
+        places[at] = place_between(all, s, 128, at);
         i += 1;
     }
 }

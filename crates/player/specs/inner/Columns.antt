@@ -59,8 +59,6 @@ minusZero = fin true 0 (pos 0)
 abbrev pub audible : Float → Float → Float
 audible c x = pick (ne c (nearest 0 1)) x minusZero
 
-unfoldable pub singleTerm : Float → Float → Float → Float → Float → Float
-singleTerm coeff gain noiseGain makeup filtered = audible coeff (coeff ⊗ noiseGain ⊗ gain ⊗ makeup ⊗ filtered)
-
-unfoldable pub blendTerm : Float → Float → Float → Float → Float → Float
-blendTerm power root noiseGain makeup filtered = audible power (root ⊗ noiseGain ⊗ makeup ⊗ filtered)
+-- what a live band adds
+unfoldable pub bandTerm : Float → Float → Float → Float → Float → Float
+bandTerm coeff noiseGain gain makeup filtered = audible coeff (coeff ⊗ noiseGain ⊗ gain ⊗ makeup ⊗ filtered)

@@ -5,34 +5,42 @@ use lib.ListN.{getD}
 use lib.Dec.{eqb}
 use lib.Ieee.{Float, nan}
 use Rattle.wire.specs.Parse.{pick}
-use Rattle.float.specs.F32.{_⊗_}
+use Rattle.float.specs.Sqrt.{sqrt}
+use Rattle.float.specs.F32.{_⊗_, nearest}
 use Rattle.player.specs.inner.Columns.{added}
 use Rattle.player.specs.Fade.{nyquistFade}
 use Rattle.player.specs.Phase.{advanceOf, partialFreq, stepOf}
-use Rattle.player.specs.Sound.{addSingle, addBlend, blendCoeff, partialRow, addNoiseSingle, addNoiseBlend, blendPower}
+use Rattle.player.specs.Sound.{addSingle, blendCoeff, partialRow, addNoiseSingle, blendPower}
 use Rattle.player.specs.declared.constants.Constants.{Constants}
 use Rattle.player.specs.declared.pitch.kept.Pitch.{Pitch}
 
--- partial i, where rows hold the coefficients between the two sides: of a single voice one row, of a blend of k channels k
+-- A single voice and a blend of k channels sound by one formula: a coefficient, a gain and the rest.
+-- The gain: of a single voice gain 0; of a blend 1, since the gains are in its coefficients. A product with 1 is the float itself.
+abbrev pub termGain : ℕ → List Float → Float
+termGain blend gains = pick (eqb blend 0) (getD gains 0 nan) (nearest 1 1)
+
+-- the coefficient of a partial, and of a band, of which channel q's is `row q`
+abbrev pub partialCoeff : ℕ → ℕ → (ℕ → Float) → List Float → Float
+partialCoeff blend k row gains = pick (eqb blend 0) (row 0) (blendCoeff row gains k)
+
+abbrev pub bandCoeff : ℕ → ℕ → (ℕ → Float) → List Float → Float
+bandCoeff blend k row gains = pick (eqb blend 0) (row 0) (sqrt (blendPower row gains k))
+
+-- partial i, where row q of the rows holds channel q's coefficients between the two sides
 abbrev pub partialAdded : ℕ → ℕ → List Float → Float → List Float → List Float → List Float → ℕ → Float → Float
 partialAdded blend k rows mainlobe fades gains sines i y =
-    let coeff = blendCoeff (λ q. getD rows (q * 32 + i) nan) gains k in
-    pick (eqb blend 0)
-    (added y (getD rows i nan) (getD rows i nan ⊗ mainlobe ⊗ getD fades i nan ⊗ getD gains 0 nan ⊗ getD sines i nan))
-    (added y coeff (coeff ⊗ mainlobe ⊗ getD fades i nan ⊗ getD sines i nan))
+    let coeff = partialCoeff blend k (λ q. getD rows (q * 32 + i) nan) gains in
+    added y coeff (coeff ⊗ mainlobe ⊗ getD fades i nan ⊗ termGain blend gains ⊗ getD sines i nan)
 
 -- live band l, in the same way
 abbrev pub noiseAdded : ℕ → ℕ → List Float → List Float → Float → List Float → List Float → ℕ → Float → Float
 noiseAdded blend k rows gains noiseGain makeup filtered l y =
-    pick (eqb blend 0)
-    (addNoiseSingle y (getD rows l nan) (getD gains 0 nan) noiseGain (getD makeup l nan) (getD filtered l nan))
-    (addNoiseBlend y (blendPower (λ q. getD rows (q * 32 + l) nan) gains k) noiseGain (getD makeup l nan) (getD filtered l nan))
+    addNoiseSingle y (bandCoeff blend k (λ q. getD rows (q * 32 + l) nan) gains) (termGain blend gains) noiseGain (getD makeup l nan)
+    (getD filtered l nan)
 
 -- partial i by itself, where p is what the frequency decides and phases are those before the sample
 abbrev pub sampleAdded : Constants → Pitch → List Float → List Float → List Float → ℕ → Float → Float
 sampleAdded x p partials gains phases i y =
-    let fade = nyquistFade (partialFreq (i + 1) (p .f0) (p .stretch)) (x .nyquist) in
-    let phase = advanceOf (getD phases i nan) (stepOf (i + 1) (p .f0) (p .stretch) (x .inv)) in
-    pick (eqb (x .blend) 0)
-    (addSingle y (partialRow partials (p .s) 0 i) (p .mainlobe) fade (getD gains 0 nan) phase)
-    (addBlend y (blendCoeff (λ q. partialRow partials (p .s) q i) gains (x .k)) (p .mainlobe) fade phase)
+    addSingle y (partialCoeff (x .blend) (x .k) (λ q. partialRow partials (p .s) q i) gains) (p .mainlobe)
+    (nyquistFade (partialFreq (i + 1) (p .f0) (p .stretch)) (x .nyquist)) (termGain (x .blend) gains)
+    (advanceOf (getD phases i nan) (stepOf (i + 1) (p .f0) (p .stretch) (x .inv)))

@@ -1,7 +1,7 @@
 // The noise of a sample: the number that every live band hears, and what a band adds.
 ghost use mathlib.Core.Path.{_≡_};
 ghost use Prim.Native.Nat.{_≤_, _<_, _+_, _*_};
-ghost use lib.ListN.{getD};
+ghost use lib.ListN.{length, getD};
 ghost use lib.Dec.{eqb};
 ghost use lib.Ieee.{nan};
 ghost use Rattle.wire.specs.Parse.{pick};
@@ -9,14 +9,16 @@ ghost use Rattle.float.specs.Sqrt.{sqrt};
 ghost use Rattle.float.specs.F32.{_⊕_, _⊗_};
 ghost use Rattle.voice.specs.Lists.{Filled, FilledRows, steps};
 ghost use Rattle.player.specs.Bracket.{SidesIn};
-ghost use Rattle.player.specs.inner.Columns.{LiveIn, singleTerm, blendTerm};
+ghost use Rattle.player.specs.inner.Columns.{LiveIn, bandTerm};
 ghost use Rattle.player.specs.inner.Terms.{noiseAdded};
 ghost use Rattle.filters.specs.Rng.{nextBipolar};
-ghost use Rattle.player.specs.Sound.{addNoiseSingle, addNoiseBlend, blendPower, noiseRow, noiseIn};
+ghost use Rattle.player.specs.Sound.{blendPower, noiseRow, noiseIn};
 ghost use Rattle.voice.specs.Limits.{maxEntries, maxBands, maxBlended};
 use crate::columns::fill;
 use crate::columns::sum_of;
+use crate::input::term_gain;
 use crate::pitch::bracket::Sides;
+use crate::pitch::bracket::place_between;
 use filters::Bipolar;
 use filters::Rng;
 use voice::band_of;
@@ -50,13 +52,12 @@ fn noise_row(
     ensures { λ r. ⌜ FilledRows (now (rows .exit)) (λ q l. noiseRow (now (noise .entry)) s q (getD (now (live .entry)) l 0)) (q + 1) n ⌝ }
 {
     let places = &mut rows[..];
+    let all = &noise[..];
     let mut l = 0;
     while l < n {
         let at = q * 16 + band_of(live[l]);
-        let lo = s.lo * 64 + at;
-        let hi = s.hi * 64 + at;
         let to = q * 32 + l;
-        places[to] = float::lerp(noise[lo], noise[hi], s.t);
+        places[to] = place_between(all, s, 64, at);
         l += 1;
     }
 }
@@ -80,25 +81,25 @@ pub fn noise_rows(
     }
 }
 
-// What each live band of a single voice adds. The store and then the store under a test are what the processor does several of at once.
-fn single_terms<'a>(
+// What each live band adds. The store and then the store under a test are what the processor does several of at once.
+fn band_terms<'a>(
     terms: &mut [f32; 32],
-    rows: &'a [f32; 128],
-    gain: f32,
+    coeffs: &'a [f32],
     noise_gain: f32,
+    gain: f32,
     makeup: &'a [f32; 32],
     ys: &'a [f32; 32],
     n: usize,
 )
-    requires { ⌜ n ≤ 32 ⌝ }
-    ensures { λ r. ⌜ Filled (now (terms .exit)) (λ l. singleTerm (getD (now (rows .entry)) l nan) gain «noise_gain»
+    requires { ⌜ (n ≤ 32) × (n ≤ length (now coeffs)) ⌝ }
+    ensures { λ r. ⌜ Filled (now (terms .exit)) (λ l. bandTerm (getD (now (coeffs .entry)) l nan) «noise_gain» gain
         (getD (now (makeup .entry)) l nan) (getD (now (ys .entry)) l nan)) n ⌝ }
 {
     let s = &mut terms[..];
     let mut l = 0;
     while l < n {
-        s[l] = rows[l] * noise_gain * gain * makeup[l] * ys[l];
-        if rows[l] == 0.0 {
+        s[l] = coeffs[l] * noise_gain * gain * makeup[l] * ys[l];
+        if coeffs[l] == 0.0 {
             s[l] = -0.0;
         }
         l += 1;
@@ -151,31 +152,8 @@ fn roots(terms: &mut [f32; 32], powers: &[f32; 32], n: usize)
     float::sqrt_each(s, p, n);
 }
 
-// What each live band of a blend adds, where the terms hold the roots of the powers.
-fn blend_terms<'a>(
-    terms: &mut [f32; 32],
-    powers: &'a [f32; 32],
-    noise_gain: f32,
-    makeup: &'a [f32; 32],
-    ys: &'a [f32; 32],
-    n: usize,
-)
-    requires { ⌜ n ≤ 32 ⌝ }
-    ensures { λ r. ⌜ Filled (now (terms .exit)) (λ l. blendTerm (getD (now (powers .entry)) l nan) (getD (now (terms .entry)) l nan)
-        «noise_gain» (getD (now (makeup .entry)) l nan) (getD (now (ys .entry)) l nan)) n ⌝ }
-{
-    let s = &mut terms[..];
-    let mut l = 0;
-    while l < n {
-        s[l] = s[l] * noise_gain * makeup[l] * ys[l];
-        if powers[l] == 0.0 {
-            s[l] = -0.0;
-        }
-        l += 1;
-    }
-}
-
-// The sample y with what the live bands add to it. Terms and powers are lent to be written on.
+// The sample y with what the live bands add to it. Of a single voice the first row is the coefficients; of a blend the roots of the powers
+// are, and what each band adds is written over the powers. Terms and powers are lent to be written on.
 pub fn noise_sum<'a>(
     y: f32,
     terms: &mut [f32; 32],
@@ -194,12 +172,15 @@ pub fn noise_sum<'a>(
         (λ l y. noiseAdded blend k (now (rows .entry)) (now (gains .entry)) «noise_gain» (now (makeup .entry)) (now (ys .entry)) l y)
         y n ⌝ }
 {
+    let gain = term_gain(blend, gains);
     if blend == 0 {
-        single_terms(terms, rows, gains[0], noise_gain, makeup, ys, n);
+        let row = &rows[..];
+        band_terms(terms, row, noise_gain, gain, makeup, ys, n);
         return sum_of(y, terms, n);
     }
     blend_powers(powers, rows, gains, k, n);
     roots(terms, powers, n);
-    blend_terms(terms, powers, noise_gain, makeup, ys, n);
-    sum_of(y, terms, n)
+    let coeffs = &terms[..];
+    band_terms(powers, coeffs, noise_gain, gain, makeup, ys, n);
+    sum_of(y, powers, n)
 }

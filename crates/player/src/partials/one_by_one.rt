@@ -1,31 +1,15 @@
 // The partials of a channel's samples where they are few: one after the other, with nothing laid out beforehand.
 ghost use mathlib.Core.Path.{_≡_};
 ghost use mathlib.Core.Bool.{true};
-ghost use Prim.Native.Nat.{_≤_, _+_};
-ghost use lib.ListN.{length, getD};
+ghost use Prim.Native.Nat.{_≤_};
+ghost use lib.ListN.{length};
 ghost use Rattle.voice.specs.Input.{frequencyOf, gainsOf};
 ghost use Rattle.voice.specs.Voice.{phasesOk};
 ghost use Rattle.player.specs.inner.Passes.{EntriesFit, FrequenciesFit, PartialsPlayed, partialsVoice};
-ghost use lib.Dec.{eqb};
-ghost use lib.Ieee.{nan};
-ghost use Rattle.wire.specs.Parse.{pick};
-ghost use Rattle.float.specs.Range.{Within};
-ghost use Rattle.float.specs.F32.{nearest};
-ghost use Rattle.voice.specs.Lists.{mapTo, steps};
-ghost use Rattle.wave_table.specs.Wave.{Table};
-ghost use Rattle.player.specs.Fade.{nyquistFade};
-ghost use Rattle.player.specs.Phase.{advanceOf, partialFreq, stepOf};
-ghost use Rattle.player.specs.Bracket.{SidesIn};
-ghost use Rattle.player.specs.Sound.{addSingle, addBlend, blendCoeff, partialRow};
-ghost use Rattle.player.specs.inner.Terms.{sampleAdded};
-ghost use Rattle.voice.specs.Limits.{maxEntries, maxPartials, maxBlended, maxHz};
-use crate::constants::Constants;
 use crate::constants::constants_of;
 use crate::input::frequency_at;
 use crate::input::gains_for;
-use crate::partials::blend::partials_blend;
-use crate::partials::single::partials_single;
-use crate::pitch::kept::Pitch;
+use crate::partials::sample::sample_of;
 use crate::pitch::kept::no_pitch;
 use crate::pitch::kept::pitch_kept;
 use voice::MAINLOBE_GAINS;
@@ -34,56 +18,6 @@ use voice::STRETCHES;
 use voice::Setting;
 use voice::list_of;
 use wave_table::table;
-
-// The sum of the partials of one sample.
-fn sample_of<'a>(
-    phases: &mut [f32; 32],
-    partials: &'a [f32; 2048],
-    wave: &'a [u32; 257],
-    gains: &'a [f32; 4],
-    v: Constants,
-    p: Pitch,
-) -> f32
-    requires { ⌜ Table (now wave) × SidesIn maxEntries (p .s) × (v .k ≤ maxBlended) × (v .m ≤ maxPartials)
-        × (phasesOk (now phases) (v .m) ≡ true) ⌝ }
-    requires { ⌜ Within maxHz 1 (p .f0) × Within 8 1 (p .stretch) × Within 1 4096 (v .inv) ⌝ }
-    ensures { λ r. ⌜ r ≡ steps
-        (λ i y. sampleAdded v p (now (partials .entry)) (now (gains .entry)) (now (phases .entry)) i y) (nearest 0 1) (v .m) ⌝ }
-    ensures { λ r. ⌜ now (phases .exit) ≡ mapTo (λ i ph. advanceOf ph (stepOf (i + 1) (p .f0) (p .stretch) (v .inv))) 0 (v .m)
-        (now (phases .entry)) ⌝ }
-{
-    if v.blend == 0 {
-        let gain = gains[0];
-        partials_single(
-            phases,
-            partials,
-            wave,
-            p.s,
-            v.m,
-            p.f0,
-            p.stretch,
-            p.mainlobe,
-            v.inv,
-            v.nyquist,
-            gain,
-        )
-    } else {
-        partials_blend(
-            phases,
-            partials,
-            wave,
-            gains,
-            v.k,
-            p.s,
-            v.m,
-            p.f0,
-            p.stretch,
-            p.mainlobe,
-            v.inv,
-            v.nyquist,
-        )
-    }
-}
 
 pub fn partials_one_by_one(
     set: Setting,

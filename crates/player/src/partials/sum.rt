@@ -1,10 +1,8 @@
 // The sum of the partials, of a single voice or of a blend.
 ghost use mathlib.Core.Path.{_≡_};
 ghost use Prim.Native.Nat.{_≤_, _<_, _+_, _*_};
-ghost use lib.ListN.{getD};
-ghost use lib.Dec.{eqb};
+ghost use lib.ListN.{length, getD};
 ghost use lib.Ieee.{nan};
-ghost use Rattle.wire.specs.Parse.{pick};
 ghost use Rattle.float.specs.F32.{_⊕_, _⊗_, nearest};
 ghost use Rattle.voice.specs.Lists.{Filled, steps};
 ghost use Rattle.player.specs.Sound.{blendCoeff};
@@ -13,48 +11,26 @@ ghost use Rattle.player.specs.inner.Terms.{partialAdded};
 ghost use Rattle.voice.specs.Limits.{maxPartials, maxBlended};
 use crate::columns::fill;
 use crate::columns::sum_of;
+use crate::input::term_gain;
 
-// A single voice: the coefficient, and gain 0. A partial without a coefficient adds -0, which changes nothing.
-fn terms_single<'a>(
+// What each partial adds. One without a coefficient adds -0, which changes nothing.
+fn partial_terms<'a>(
     terms: &mut [f32; 32],
-    rows: &'a [f32; 128],
+    coeffs: &'a [f32],
     mainlobe: f32,
     fades: &'a [f32; 32],
     gain: f32,
     sines: &'a [f32; 32],
     m: usize,
 )
-    requires { ⌜ m ≤ maxPartials ⌝ }
-    ensures { λ r. ⌜ Filled (now (terms .exit)) (λ i. audible (getD (now (rows .entry)) i nan) (getD (now (rows .entry)) i nan ⊗ mainlobe
-        ⊗ getD (now (fades .entry)) i nan ⊗ gain ⊗ getD (now (sines .entry)) i nan)) m ⌝ }
-{
-    let ts = &mut terms[..];
-    let mut i = 0;
-    while i < m {
-        ts[i] = rows[i] * mainlobe * fades[i] * gain * sines[i];
-        if rows[i] == 0.0 {
-            ts[i] = -0.0;
-        }
-        i += 1;
-    }
-}
-
-fn terms_blend<'a>(
-    terms: &mut [f32; 32],
-    coeffs: &'a [f32; 32],
-    mainlobe: f32,
-    fades: &'a [f32; 32],
-    sines: &'a [f32; 32],
-    m: usize,
-)
-    requires { ⌜ m ≤ maxPartials ⌝ }
+    requires { ⌜ (m ≤ maxPartials) × (m ≤ length (now coeffs)) ⌝ }
     ensures { λ r. ⌜ Filled (now (terms .exit)) (λ i. audible (getD (now (coeffs .entry)) i nan) (getD (now (coeffs .entry)) i nan ⊗
-        mainlobe ⊗ getD (now (fades .entry)) i nan ⊗ getD (now (sines .entry)) i nan)) m ⌝ }
+        mainlobe ⊗ getD (now (fades .entry)) i nan ⊗ gain ⊗ getD (now (sines .entry)) i nan)) m ⌝ }
 {
     let ts = &mut terms[..];
     let mut i = 0;
     while i < m {
-        ts[i] = coeffs[i] * mainlobe * fades[i] * sines[i];
+        ts[i] = coeffs[i] * mainlobe * fades[i] * gain * sines[i];
         if coeffs[i] == 0.0 {
             ts[i] = -0.0;
         }
@@ -97,7 +73,7 @@ fn blend_coeffs<'a>(
     }
 }
 
-// `terms` and `coeffs` are lent to work in.
+// The sum. Of a single voice the first row is the coefficients. `terms` and `coeffs` are lent to work in.
 pub fn partial_sum<'a>(
     terms: &mut [f32; 32],
     coeffs: &mut [f32; 32],
@@ -115,11 +91,14 @@ pub fn partial_sum<'a>(
         (λ i y. partialAdded blend k (now (rows .entry)) mainlobe (now (fades .entry)) (now (gains .entry)) (now (sines .entry)) i y)
         (nearest 0 1) m ⌝ }
 {
+    let gain = term_gain(blend, gains);
     if blend == 0 {
-        terms_single(terms, rows, mainlobe, fades, gains[0], sines, m);
+        let row = &rows[..];
+        partial_terms(terms, row, mainlobe, fades, gain, sines, m);
         return sum_of(0.0, terms, m);
     }
     blend_coeffs(coeffs, rows, gains, k, m);
-    terms_blend(terms, coeffs, mainlobe, fades, sines, m);
+    let blended = &coeffs[..];
+    partial_terms(terms, blended, mainlobe, fades, gain, sines, m);
     sum_of(0.0, terms, m)
 }

@@ -1,9 +1,10 @@
 // The entries between which a frequency lies.
 ghost use mathlib.Core.Path.{_≡_};
 ghost use mathlib.Core.Bool.{true, false};
-ghost use Prim.Native.Nat.{_≤_};
-ghost use lib.ListN.{getD};
+ghost use Prim.Native.Nat.{_≤_, _<_, _+_, _*_};
+ghost use lib.ListN.{length, getD};
 ghost use lib.Ieee.{nan, le};
+ghost use Rattle.float.specs.Lerp.{lerp};
 ghost use Rattle.float.specs.Range.{Within};
 ghost use Rattle.voice.specs.Lists.{every};
 ghost use Rattle.player.specs.Share.{shareOf};
@@ -98,4 +99,14 @@ pub fn value_between(l: &[f32; 16], s: Sides) -> f32
     let lo = s.lo;
     let hi = s.hi;
     float::lerp(l[lo], l[hi], s.t)
+}
+
+// The same where each entry has `width` values: the one at its place `at`.
+pub fn place_between(xs: &[f32], s: Sides, width: usize, at: usize) -> f32
+    requires { ⌜ (s .lo * width + at < length (now xs)) × (s .hi * width + at < length (now xs)) ⌝ }
+    ensures { λ r. ⌜ r ≡ lerp (getD (now (xs .entry)) (s .lo * width + at) nan) (getD (now (xs .entry)) (s .hi * width + at) nan) (s .t) ⌝ }
+{
+    let a = s.lo * width + at;
+    let b = s.hi * width + at;
+    float::lerp(xs[a], xs[b], s.t)
 }

@@ -2,7 +2,7 @@ use mathlib.Core.Path.{_∙_}
 use lib.ListN.{length}
 use Rattle.voice.specs.Input.{frequencyOf, gainsOf}
 use Rattle.player.specs.inner.Passes.{partialsVoice}
-use Rattle.player.proofs.ChannelLaws.{same-phases, no-tones}
+use Rattle.player.proofs.ChannelLaws.{same-phases, no-partials}
 -- `all_partials` meets its contract.
 use borrow.Author.Needs.{needs}
 use Rattle.player.proofs.channel.all_partials.Statement.{statement}
@@ -22,7 +22,7 @@ returns c =
     let v = partialsVoice (b12 .args .set) (b12 .args .lists .now) (b12 .args .partials .now) (b12 .args .phases .now) in
     let F = frequencyOf (b12 .args .freq .now) in
     let G = gainsOf (b12 .args .g0 .now) (b12 .args .g1 .now) (b12 .args .g2 .now) (b12 .args .g3 .now) in
-    record { moves = same-phases v F G (b4 .if1 .taken) (length (b12 .args .out .now)); written = b2 .silence .ensures ∙ no-tones v F G (b4 .if1 .taken) (length (b12 .args .out .now)) }
+    record { moves = same-phases v F G (b4 .if1 .taken) (length (b12 .args .out .now)); written = b2 .silence .ensures ∙ no-partials v F G (b4 .if1 .taken) (length (b12 .args .out .now)) }
 
 partials-one-by-one-requires : tie.Need-partials-one-by-one-requires
 partials-one-by-one-requires c κs = search needs

@@ -1,7 +1,7 @@
 use lib.ListN.{length}
 use borrow.Author.Tests.{eq-eqb, ne-eqb}
 use Rattle.voice.specs.Input.{frequencyOf, gainsOf}
-use Rattle.player.proofs.ChannelLaws.{ends-still, ends-tones, ends-noisy}
+use Rattle.player.proofs.ChannelLaws.{ends-still, ends-partials, ends-noisy}
 -- `channel_of` meets its contract.
 use borrow.Author.Needs.{needs}
 use Rattle.player.proofs.channel.channel_of.Statement.{statement}
@@ -31,7 +31,7 @@ returns-2 c =
     let b4 = c .before .before .before .before in
     let b7 = b4 .before .before .before in
     let b15 = b7 .before .before .before .before .before .before .before .before in
-    ends-tones (b15 .args .set) (b15 .args .lists .now) (b15 .args .partials .now) (b15 .args .noise .now) (b15 .args .phases .now) (b15 .args .memories .now) (b15 .args .rng) (frequencyOf (b15 .args .freq .now)) (gainsOf (b15 .args .g0 .now) (b15 .args .g1 .now) (b15 .args .g2 .now) (b15 .args .g3 .now)) (length (b15 .args .out .now)) (ne-eqb _ _ (b7 .if1 .left)) (c .if2 .taken) _ _ (b4 .all-partials .ensures)
+    ends-partials (b15 .args .set) (b15 .args .lists .now) (b15 .args .partials .now) (b15 .args .noise .now) (b15 .args .phases .now) (b15 .args .memories .now) (b15 .args .rng) (frequencyOf (b15 .args .freq .now)) (gainsOf (b15 .args .g0 .now) (b15 .args .g1 .now) (b15 .args .g2 .now) (b15 .args .g3 .now)) (length (b15 .args .out .now)) (ne-eqb _ _ (b7 .if1 .left)) (c .if2 .taken) _ _ (b4 .all-partials .ensures)
 
 noise-pass-requires : tie.Need-noise-pass-requires
 noise-pass-requires c κs = search needs

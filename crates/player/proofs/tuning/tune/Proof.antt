@@ -1,6 +1,6 @@
 -- `tune` meets its contract.
 use lib.Ieee.{ofBits, round}
-use Rattle.player.proofs.ToneLaws.{tuned-is}
+use Rattle.player.proofs.PartialLaws.{tuned-is}
 use borrow.Author.Needs.{needs}
 use borrow.Author.Needs.{needs}
 use Rattle.player.proofs.tuning.tune.Statement.{statement}

@@ -1,5 +1,5 @@
 use Rattle.player.proofs.SoundLaws.{sides-wide}
-use Rattle.player.proofs.ToneLaws.{noise-tuned-is}
+use Rattle.player.proofs.PartialLaws.{noise-tuned-is}
 use borrow.Author.Needs.{needs}
 use Rattle.player.proofs.tuning.tune_noise.Statement.{statement}
 use Rattle.player.proofs.tuning.tune_noise.Tie as tie

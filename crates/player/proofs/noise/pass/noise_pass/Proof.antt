@@ -10,7 +10,7 @@ use Rattle.player.specs.inner.Passes.{noiseVoice, noiseOut}
 use Rattle.voice.specs.declared.voice.Voice.{Voice}
 use Rattle.player.proofs.RangeLaws.{hold}
 use Rattle.player.proofs.SoundLaws.{cleaned-within}
-use Rattle.player.proofs.NoisePass.{Noising, noising-first, noising-again, noising-last, noisy-sounds, noises-first, noises-again, noises-full, noise-tuned-of, of-noise-tuned, makeup-of}
+use Rattle.player.proofs.NoisePass.{BandsAt, bands-at-first, bands-at-next, bands-at-last, noisy-sounds, noise-out-first, noise-out-again, noise-out-full, noise-tuned-of, of-noise-tuned, makeup-of}
 -- `noise_pass` meets its contract.
 use borrow.Author.Needs.{needs}
 use Rattle.player.proofs.noise.pass.noise_pass.Statement.{statement}
@@ -20,7 +20,7 @@ abbrev Inv-loop : tie.InvT-loop
 Inv-loop set lists noise memories freq g0 g1 g2 g3 out₀ f0-hz noise-gain live v z1₀ z2₀ coeffs makeup ys₀ terms₀ powers₀ rows₀ rng₀ t₀ i₀ out z1 z2 ys terms powers rows rng t i =
     (i ≤ length out₀) × (length out ≡ length out₀)
     × (out ≡ noiseOut (noiseVoice set lists noise memories rng₀) (frequencyOf freq) (gainsOf g0 g1 g2 g3) out₀ i ++ drop i out₀)
-    × Noising (noiseVoice set lists noise memories rng₀) v i z1 z2 rng rows t
+    × BandsAt (noiseVoice set lists noise memories rng₀) v i z1 z2 rng rows t
 
 abbrev μ-loop : tie.MeasureT-loop
 μ-loop set lists noise memories freq g0 g1 g2 g3 out₀ f0-hz noise-gain live v z1₀ z2₀ coeffs makeup ys₀ terms₀ powers₀ rows₀ rng₀ t₀ i₀ out z1 z2 ys terms powers rows rng t i = length out₀ - i
@@ -74,7 +74,7 @@ loop-holds c =
     let b8 = c .before .before .before .before .before .before .before .before in
     let b13 = b8 .before .before .before .before .before in
     let b24 = b13 .before .before .before .before .before .before .before .before .before .before .before in
-    (omega arith, refl, noises-first (voice b24) (freq-of b24) (gains-of b24) (b24 .args .out .now), noising-first (voice b24) (b24 .pre .1) (b13 .constants-of .result) (b13 .constants-of .ensures .0, b13 .constants-of .ensures .1) (b8 .gather-memories .ensures .1) _ _ _ _ (b8 .gather-memories .ensures .0) (c .noise-untuned .ensures))
+    (omega arith, refl, noise-out-first (voice b24) (freq-of b24) (gains-of b24) (b24 .args .out .now), bands-at-first (voice b24) (b24 .pre .1) (b13 .constants-of .result) (b13 .constants-of .ensures .0, b13 .constants-of .ensures .1) (b8 .gather-memories .ensures .1) _ _ _ _ (b8 .gather-memories .ensures .0) (c .noise-untuned .ensures))
 
 frequency-at-requires : tie.Need-frequency-at-requires Inv-loop μ-loop
 frequency-at-requires c κs = search needs
@@ -172,8 +172,8 @@ loop-again c =
     let y = noisy-sounds v (b48 .pre .1) x (b37 .constants-of .ensures .0, b37 .constants-of .ensures .1) (b32 .gather-memories .ensures .1) (freq-of b48) (gains-of b48) (b23 .loop .i) (b23 .loop .z1) (b23 .loop .z2) (b23 .loop .rng) (b23 .loop .rows) (b23 .loop .t) (b23 .loop .inv .3) f0 (b21 .frequency-at .ensures) (hold _ (b21 .frequency-at .ok)) W _ (b15 .tune-noise .result) U (b14 .noise-step .result) (b14 .noise-step .ensures) _ _ _ _ (b29 .gather-coeffs .ensures) (b9 .tick-bands .ensures) _ _ _ (c .noise-sum .result) (b20 .gains-at .ensures) M (c .noise-sum .ensures) in (
       omega (arith, b22 .loop-test .taken, b23 .loop .inv .1),
       simp length-set (b23 .loop .inv .1),
-      noises-again v (freq-of b48) (gains-of b48) (b23 .loop .i) (b48 .args .out .now) (b23 .loop .out) (c .noise-sum .result) (omega (arith, b22 .loop-test .taken, b23 .loop .inv .1)) (b23 .loop .inv .2) y,
-      noising-again v (b48 .pre .1) x (b37 .constants-of .ensures .0, b37 .constants-of .ensures .1) (b32 .gather-memories .ensures .1) (freq-of b48) (gains-of b48) (b23 .loop .i) (b23 .loop .z1) (b23 .loop .z2) (b23 .loop .rng) (b23 .loop .rows) (b23 .loop .t) (b23 .loop .inv .3) f0 (b21 .frequency-at .ensures) (hold _ (b21 .frequency-at .ok)) W _ (b15 .tune-noise .result) U (b14 .noise-step .result) (b14 .noise-step .ensures) _ _ _ _ (b29 .gather-coeffs .ensures) (b9 .tick-bands .ensures),
+      noise-out-again v (freq-of b48) (gains-of b48) (b23 .loop .i) (b48 .args .out .now) (b23 .loop .out) (c .noise-sum .result) (omega (arith, b22 .loop-test .taken, b23 .loop .inv .1)) (b23 .loop .inv .2) y,
+      bands-at-next v (b48 .pre .1) x (b37 .constants-of .ensures .0, b37 .constants-of .ensures .1) (b32 .gather-memories .ensures .1) (freq-of b48) (gains-of b48) (b23 .loop .i) (b23 .loop .z1) (b23 .loop .z2) (b23 .loop .rng) (b23 .loop .rows) (b23 .loop .t) (b23 .loop .inv .3) f0 (b21 .frequency-at .ensures) (hold _ (b21 .frequency-at .ok)) W _ (b15 .tune-noise .result) U (b14 .noise-step .result) (b14 .noise-step .ensures) _ _ _ _ (b29 .gather-coeffs .ensures) (b9 .tick-bands .ensures),
     )
 
 scatter-memories-requires : tie.Need-scatter-memories-requires Inv-loop μ-loop
@@ -193,8 +193,8 @@ returns c =
     let b15 = b6 .before .before .before .before .before .before .before .before .before in
     let b20 = b15 .before .before .before .before .before in
     let b31 = b20 .before .before .before .before .before .before .before .before .before .before .before in
-    let l = noising-last (voice b31) (b31 .pre .1) (b20 .constants-of .result) (b20 .constants-of .ensures .0, b20 .constants-of .ensures .1) (b15 .gather-memories .ensures .1) (b6 .loop .i) (length (b31 .args .out .now)) (b6 .loop .z1) (b6 .loop .z2) (b6 .loop .rng) (b6 .loop .rows) (b6 .loop .t) _ (omega (arith, b5 .loop-test .left, b6 .loop .inv .0, b6 .loop .inv .1)) (b6 .loop .inv .3) (c .scatter-memories .ensures) in
-    record { steps-on = l .0; rings = l .1; written = noises-full (voice b31) (freq-of b31) (gains-of b31) (b6 .loop .i) (length (b31 .args .out .now)) (b31 .args .out .now) (b6 .loop .out) (omega (arith, b5 .loop-test .left, b6 .loop .inv .0, b6 .loop .inv .1)) refl (b6 .loop .inv .2) }
+    let l = bands-at-last (voice b31) (b31 .pre .1) (b20 .constants-of .result) (b20 .constants-of .ensures .0, b20 .constants-of .ensures .1) (b15 .gather-memories .ensures .1) (b6 .loop .i) (length (b31 .args .out .now)) (b6 .loop .z1) (b6 .loop .z2) (b6 .loop .rng) (b6 .loop .rows) (b6 .loop .t) _ (omega (arith, b5 .loop-test .left, b6 .loop .inv .0, b6 .loop .inv .1)) (b6 .loop .inv .3) (c .scatter-memories .ensures) in
+    record { steps-on = l .0; rings = l .1; written = noise-out-full (voice b31) (freq-of b31) (gains-of b31) (b6 .loop .i) (length (b31 .args .out .now)) (b31 .args .out .now) (b6 .loop .out) (omega (arith, b5 .loop-test .left, b6 .loop .inv .0, b6 .loop .inv .1)) refl (b6 .loop .inv .2) }
 
 pub noise-pass-spec : {M : Type 1} → statement M
 noise-pass-spec =

@@ -12,15 +12,15 @@ use Rattle.player.proofs.noise.sum.noise_row.Statement.{statement}
 use Rattle.player.proofs.noise.sum.noise_row.Tie as tie
 
 abbrev Inv-loop : tie.InvT-loop
-Inv-loop noise live s q n places₀ l₀ places l = (l ≤ n) × (length places ≡ 128) × FilledRows places (λ q l. noiseRow noise s q (getD live l 0)) q n × RowFilled places (λ l. noiseRow noise s q (getD live l 0)) q l
+Inv-loop noise live s q n places₀ all l₀ places l = (l ≤ n) × (length places ≡ 128) × FilledRows places (λ q l. noiseRow noise s q (getD live l 0)) q n × RowFilled places (λ l. noiseRow noise s q (getD live l 0)) q l
 
 abbrev μ-loop : tie.MeasureT-loop
-μ-loop noise live s q n places₀ l₀ places l = n - l
+μ-loop noise live s q n places₀ all l₀ places l = n - l
 
 loop-holds : tie.Need-loop-holds Inv-loop μ-loop
 loop-holds c =
-    let b1 = c .before in
-    (omega arith, search needs, b1 .pre .4, row-none (λ q l. noiseRow (b1 .args .noise .now) (b1 .args .s) q (getD (b1 .args .live .now) l 0)) _ _)
+    let b2 = c .before .before in
+    (omega arith, search needs, b2 .pre .4, row-none (λ q l. noiseRow (b2 .args .noise .now) (b2 .args .s) q (getD (b2 .args .live .now) l 0)) _ _)
 
 mul-at : tie.Need-mul-at Inv-loop μ-loop
 mul-at c = search needs
@@ -35,30 +35,9 @@ add-at : tie.Need-add-at Inv-loop μ-loop
 add-at c =
     let b2 = c .before .before in
     let b3 = b2 .before in
-    let b5 = b3 .before .before in
-    let B = b5 .pre .3 .below (b3 .loop .l) (b2 .loop-test .taken) in let e = c .band-of .ensures in omega (arith, B, e, b5 .pre .1)
-
-mul-lo : tie.Need-mul-lo Inv-loop μ-loop
-mul-lo c = search needs
-
-add-lo : tie.Need-add-lo Inv-loop μ-loop
-add-lo c =
-    let b1 = c .before in
-    let b3 = b1 .before .before in
-    let b4 = b3 .before in
-    let b6 = b4 .before .before in
-    let B = b6 .pre .3 .below (b4 .loop .l) (b3 .loop-test .taken) in let e = b1 .band-of .ensures in omega (arith, B, e, b6 .pre .0 .low, b6 .pre .0 .high, b6 .pre .1)
-
-mul-hi : tie.Need-mul-hi Inv-loop μ-loop
-mul-hi c = search needs
-
-add-hi : tie.Need-add-hi Inv-loop μ-loop
-add-hi c =
-    let b2 = c .before .before in
-    let b4 = b2 .before .before in
-    let b5 = b4 .before in
-    let b7 = b5 .before .before in
-    let B = b7 .pre .3 .below (b5 .loop .l) (b4 .loop-test .taken) in let e = b2 .band-of .ensures in omega (arith, B, e, b7 .pre .0 .low, b7 .pre .0 .high, b7 .pre .1)
+    let b6 = b3 .before .before .before in
+    let B = b6 .pre .3 .below (b3 .loop .l) (b2 .loop-test .taken) in
+    let e = c .band-of .ensures in omega (arith, B, e, b6 .pre .1)
 
 mul-to : tie.Need-mul-to Inv-loop μ-loop
 mul-to c = search needs
@@ -66,40 +45,14 @@ mul-to c = search needs
 add-to : tie.Need-add-to Inv-loop μ-loop
 add-to c = search needs
 
-mul-lerp : tie.Need-mul-lerp Inv-loop μ-loop
-mul-lerp c =
+place-between-requires : tie.Need-place-between-requires Inv-loop μ-loop
+place-between-requires c κs =
     let b2 = c .before .before in
-    let b4 = b2 .before .before in
-    let b5 = b4 .before in
-    let b7 = b5 .before .before in
-    let B = b7 .pre .3 .below (b5 .loop .l) (b4 .loop-test .taken) in let e = b2 .band-of .ensures in omega (arith, B, e, b7 .pre .0 .low, b7 .pre .0 .high, b7 .pre .1)
-
-element-copy-out-lerp : tie.Need-element-copy-out-lerp Inv-loop μ-loop
-element-copy-out-lerp c =
-    let b2 = c .before .before in
-    let b4 = b2 .before .before in
-    let b5 = b4 .before in
-    let b7 = b5 .before .before in
-    let B = b7 .pre .3 .below (b5 .loop .l) (b4 .loop-test .taken) in let e = b2 .band-of .ensures in omega (arith, B, e, b7 .pre .0 .low, b7 .pre .0 .high, b7 .pre .1)
-
-mul-lerp-2 : tie.Need-mul-lerp-2 Inv-loop μ-loop
-mul-lerp-2 c =
-    let b3 = c .before .before .before in
-    let b5 = b3 .before .before in
-    let b6 = b5 .before in
-    let b8 = b6 .before .before in
-    let B = b8 .pre .3 .below (b6 .loop .l) (b5 .loop-test .taken) in let e = b3 .band-of .ensures in omega (arith, B, e, b8 .pre .0 .low, b8 .pre .0 .high, b8 .pre .1)
-
-element-copy-out-lerp-2 : tie.Need-element-copy-out-lerp-2 Inv-loop μ-loop
-element-copy-out-lerp-2 c =
-    let b3 = c .before .before .before in
-    let b5 = b3 .before .before in
-    let b6 = b5 .before in
-    let b8 = b6 .before .before in
-    let B = b8 .pre .3 .below (b6 .loop .l) (b5 .loop-test .taken) in let e = b3 .band-of .ensures in omega (arith, B, e, b8 .pre .0 .low, b8 .pre .0 .high, b8 .pre .1)
-
-lerp-requires : tie.Need-lerp-requires Inv-loop μ-loop
-lerp-requires c κs = search needs
+    let b3 = b2 .before in
+    let b6 = b3 .before .before .before in
+    let B = b6 .pre .3 .below (b3 .loop .l) (b2 .loop-test .taken) in
+    let e = c .band-of .ensures in
+    (omega (arith, B, e, b6 .pre .0 .low, b6 .pre .1), omega (arith, B, e, b6 .pre .0 .high, b6 .pre .1))
 
 mul-places : tie.Need-mul-places Inv-loop μ-loop
 mul-places c = search needs
@@ -115,22 +68,21 @@ loop-less c = search needs
 
 loop-again : tie.Need-loop-again Inv-loop μ-loop
 loop-again c =
-    let b5 = c .before .before .before .before .before in
-    let b7 = b5 .before .before in
-    let b8 = b7 .before in
-    let b10 = b8 .before .before in
-    let f : ℕ → ℕ → Float = λ q l. noiseRow (b10 .args .noise .now) (b10 .args .s) q (getD (b10 .args .live .now) l 0) in (
-      omega (arith, b7 .loop-test .taken),
-      simp length-set (b8 .loop .inv .1),
-      rows-keep f (b8 .loop .places) (b10 .args .q) (b10 .args .n) (b8 .loop .l) _ (omega (arith, b10 .pre .2)) (b8 .loop .inv .2),
-      row-again f (b8 .loop .places) (b10 .args .q) (b8 .loop .l) _ (omega (arith, b7 .loop-test .taken, b10 .pre .2, b10 .pre .1, b8 .loop .inv .1)) (c .lerp .ensures ∙ rw (b5 .band-of .ensures)) (b8 .loop .inv .3),
+    let b1 = c .before in
+    let b3 = b1 .before .before in
+    let b4 = b3 .before in
+    let b7 = b4 .before .before .before in
+    let f : ℕ → ℕ → Float = λ q l. noiseRow (b7 .args .noise .now) (b7 .args .s) q (getD (b7 .args .live .now) l 0) in (
+      omega (arith, b3 .loop-test .taken),
+      simp length-set (b4 .loop .inv .1),
+      rows-keep f (b4 .loop .places) (b7 .args .q) (b7 .args .n) (b4 .loop .l) _ (omega (arith, b7 .pre .2)) (b4 .loop .inv .2),
+      row-again f (b4 .loop .places) (b7 .args .q) (b4 .loop .l) _ (omega (arith, b3 .loop-test .taken, b7 .pre .2, b7 .pre .1, b4 .loop .inv .1)) (c .place-between .ensures ∙ rw (b1 .band-of .ensures)) (b4 .loop .inv .3),
     )
 
 returns : tie.Need-returns Inv-loop μ-loop
 returns c =
     let b1 = c .before in
-    let b3 = b1 .before .before in
-    let a = b3 .args in
+    let a = b1 .before .before .before .args in
     let f : ℕ → ℕ → Float = λ q l. noiseRow (a .noise .now) (a .s) q (getD (a .live .now) l 0) in
     rows-again f (b1 .loop .places) (a .q) (a .n) (b1 .loop .l) (omega arith) (b1 .loop .inv .2) (b1 .loop .inv .3)
 
@@ -145,17 +97,9 @@ noise-row-spec =
     element-copy-out-band-of
     band-of-requires
     add-at
-    mul-lo
-    add-lo
-    mul-hi
-    add-hi
     mul-to
     add-to
-    mul-lerp
-    element-copy-out-lerp
-    mul-lerp-2
-    element-copy-out-lerp-2
-    lerp-requires
+    place-between-requires
     mul-places
     slice-write-places
     add-l

@@ -10,8 +10,8 @@ use Rattle.player.specs.inner.Passes.{partialsVoice, partialsOut}
 use Rattle.voice.specs.declared.voice.Voice.{Voice}
 use Rattle.player.proofs.RangeLaws.{hold}
 use Rattle.player.proofs.SoundLaws.{ConstantsOf, cleaned-within, inverse-small}
-use Rattle.player.proofs.ToneLaws.{tuned-voice, all-phases}
-use Rattle.player.proofs.TonePass.{Toning, toning-first, toning-again, sounds, tones-first, tones-again, tones-full, tuned-of, of-tuned}
+use Rattle.player.proofs.PartialLaws.{tuned-voice, all-phases}
+use Rattle.player.proofs.PartialsPass.{PartialsAt, partials-at-first, partials-at-next, sounds, partials-out-first, partials-out-again, partials-out-full, tuned-of, of-tuned}
 -- `partials_in_columns` meets its contract.
 use borrow.Author.Needs.{needs}
 use Rattle.player.proofs.partials.in_columns.partials_in_columns.Statement.{statement}
@@ -21,7 +21,7 @@ abbrev Inv-loop : tie.InvT-loop
 Inv-loop set lists partials phases₀ freq g0 g1 g2 g3 out₀ f0-hz stretch mainlobe-gain wave v freqs₀ incs₀ fades₀ sines₀ terms₀ rests₀ coeffs₀ rows₀ t₀ i₀ phases out freqs incs fades sines terms rests coeffs rows t i =
     (i ≤ length out₀) × (length out ≡ length out₀)
     × (out ≡ partialsOut (partialsVoice set lists partials phases₀) (frequencyOf freq) (gainsOf g0 g1 g2 g3) i ++ drop i out₀)
-    × Toning (partialsVoice set lists partials phases₀) v (frequencyOf freq) i phases incs fades rows t
+    × PartialsAt (partialsVoice set lists partials phases₀) v (frequencyOf freq) i phases incs fades rows t
 
 abbrev μ-loop : tie.MeasureT-loop
 μ-loop set lists partials phases₀ freq g0 g1 g2 g3 out₀ f0-hz stretch mainlobe-gain wave v freqs₀ incs₀ fades₀ sines₀ terms₀ rests₀ coeffs₀ rows₀ t₀ i₀ phases out freqs incs fades sines terms rests coeffs rows t i = length out₀ - i
@@ -62,7 +62,7 @@ loop-holds : tie.Need-loop-holds Inv-loop μ-loop
 loop-holds c =
     let b1 = c .before in
     let b12 = b1 .before .before .before .before .before .before .before .before .before .before .before in
-    (omega arith, refl, tones-first (voice b12) (freq-of b12) (gains-of b12) (b12 .args .out .now), toning-first (voice b12) (b1 .constants-of .result) (b1 .constants-of .ensures) (freq-of b12) (gains-of b12) _ _ _ _ (b12 .pre .1) (c .untuned .ensures))
+    (omega arith, refl, partials-out-first (voice b12) (freq-of b12) (gains-of b12) (b12 .args .out .now), partials-at-first (voice b12) (b1 .constants-of .result) (b1 .constants-of .ensures) (freq-of b12) (gains-of b12) _ _ _ _ (b12 .pre .1) (c .untuned .ensures))
 
 frequency-at-requires : tie.Need-frequency-at-requires Inv-loop μ-loop
 frequency-at-requires c κs = search needs
@@ -170,8 +170,8 @@ loop-again c =
     let y = sounds v x (b30 .constants-of .ensures) (freq-of b41) (gains-of b41) (b28 .loop .i) (b28 .loop .phases) (b28 .loop .incs) (b28 .loop .fades) (b28 .loop .rows) (b28 .loop .t) (b28 .loop .inv .3) f0 (b26 .frequency-at .ensures) (hold _ (b26 .frequency-at .ok)) W _ _ _ (b17 .tune .result) U _ (b14 .move-phases .ensures) _ _ (c .partial-sum .result) (b25 .gains-at .ensures) (b7 .sines-of .ensures) (c .partial-sum .ensures) in (
       omega (arith, b27 .loop-test .taken, b28 .loop .inv .1),
       simp length-set (b28 .loop .inv .1),
-      tones-again v (freq-of b41) (gains-of b41) (b28 .loop .i) (b41 .args .out .now) (b28 .loop .out) (c .partial-sum .result) (omega (arith, b27 .loop-test .taken, b28 .loop .inv .1)) (b28 .loop .inv .2) y,
-      toning-again v x (b30 .constants-of .ensures) (freq-of b41) (gains-of b41) (b28 .loop .i) (b28 .loop .phases) (b28 .loop .incs) (b28 .loop .fades) (b28 .loop .rows) (b28 .loop .t) (b28 .loop .inv .3) f0 (b26 .frequency-at .ensures) (hold _ (b26 .frequency-at .ok)) W _ _ _ (b17 .tune .result) U _ (b14 .move-phases .ensures),
+      partials-out-again v (freq-of b41) (gains-of b41) (b28 .loop .i) (b41 .args .out .now) (b28 .loop .out) (c .partial-sum .result) (omega (arith, b27 .loop-test .taken, b28 .loop .inv .1)) (b28 .loop .inv .2) y,
+      partials-at-next v x (b30 .constants-of .ensures) (freq-of b41) (gains-of b41) (b28 .loop .i) (b28 .loop .phases) (b28 .loop .incs) (b28 .loop .fades) (b28 .loop .rows) (b28 .loop .t) (b28 .loop .inv .3) f0 (b26 .frequency-at .ensures) (hold _ (b26 .frequency-at .ok)) W _ _ _ (b17 .tune .result) U _ (b14 .move-phases .ensures),
     )
 
 same-length : tie.Need-same-length Inv-loop μ-loop
@@ -183,7 +183,7 @@ returns : tie.Need-returns Inv-loop μ-loop
 returns c =
     let b1 = c .before in
     let b14 = b1 .before .before .before .before .before .before .before .before .before .before .before .before .before in
-    let r = tones-full (voice b14) (freq-of b14) (gains-of b14) (b1 .loop .i) (length (b14 .args .out .now)) (b14 .args .out .now) (b1 .loop .out) (b1 .loop .phases) (omega (arith, c .loop-test .left, b1 .loop .inv .0, b1 .loop .inv .1)) refl (b1 .loop .inv .2) (b1 .loop .inv .3 .phases-are) in record { moves = r .0; written = r .1 }
+    let r = partials-out-full (voice b14) (freq-of b14) (gains-of b14) (b1 .loop .i) (length (b14 .args .out .now)) (b14 .args .out .now) (b1 .loop .out) (b1 .loop .phases) (omega (arith, c .loop-test .left, b1 .loop .inv .0, b1 .loop .inv .1)) refl (b1 .loop .inv .2) (b1 .loop .inv .3 .phases-are) in record { moves = r .0; written = r .1 }
 
 pub partials-in-columns-spec : {M : Type 1} → statement M
 partials-in-columns-spec =

@@ -14,7 +14,7 @@ use Rattle.player.specs.inner.Tuning.{PitchAt}
 use Rattle.voice.specs.declared.voice.Voice.{Voice}
 use Rattle.player.proofs.RangeLaws.{hold}
 use Rattle.player.proofs.SoundLaws.{ConstantsOf, cleaned-within, inverse-small}
-use Rattle.player.proofs.TonePass.{tone-is, phases-is, phases-keep, few-sounds, pitch-stays, pitch-of, no-pitch-yet, phases-first, phases-again, tones-first, tones-again, tones-full, pitched-of, of-pitched}
+use Rattle.player.proofs.PartialsPass.{sample-of-is, phases-is, phases-keep, few-sounds, pitch-stays, pitch-of, no-pitch-yet, phases-first, phases-again, partials-out-first, partials-out-again, partials-out-full, pitched-of, of-pitched}
 -- `partials_one_by_one` meets its contract.
 use borrow.Author.Needs.{needs}
 use Rattle.player.proofs.partials.one_by_one.partials_one_by_one.Statement.{statement}
@@ -65,7 +65,7 @@ no-pitch-requires c κs = search needs
 loop-holds : tie.Need-loop-holds Inv-loop μ-loop
 loop-holds c =
     let b12 = c .before .before .before .before .before .before .before .before .before .before .before .before in
-    (omega arith, refl, tones-first (voice b12) (freq-of b12) (gains-of b12) (b12 .args .out .now), phases-first (voice b12) (freq-of b12), b12 .pre .1, no-pitch-yet (voice b12) (c .no-pitch .result) (c .no-pitch .ensures))
+    (omega arith, refl, partials-out-first (voice b12) (freq-of b12) (gains-of b12) (b12 .args .out .now), phases-first (voice b12) (freq-of b12), b12 .pre .1, no-pitch-yet (voice b12) (c .no-pitch .result) (c .no-pitch .ensures))
 
 frequency-at-requires : tie.Need-frequency-at-requires Inv-loop μ-loop
 frequency-at-requires c κs = search needs
@@ -147,10 +147,10 @@ loop-again c =
     let X = b13 .constants-of .ensures in
     let K = pitched-of v (b17 .list-of .result) (b16 .list-of2 .result) (b15 .list-of3 .result) (b17 .list-of .ensures) (b16 .list-of2 .ensures) (b15 .list-of3 .ensures) f0 p (b4 .pitch-kept .ensures) in
     let P = pitch-of v p f0 K in
-    let y = few-sounds v f0 x p X P (freq-of b24) (gains-of b24) (b11 .loop .i) (b8 .gains-for .result) (b11 .loop .phases) (c .sample-of .result) (b9 .frequency-at .ensures) (b8 .gains-for .ensures) (b11 .loop .inv .3) (tone-is v f0 x p X P (b8 .gains-for .result) (b11 .loop .phases) (c .sample-of .result) (c .sample-of .ensures .0)) in (
+    let y = few-sounds v f0 x p X P (freq-of b24) (gains-of b24) (b11 .loop .i) (b8 .gains-for .result) (b11 .loop .phases) (c .sample-of .result) (b9 .frequency-at .ensures) (b8 .gains-for .ensures) (b11 .loop .inv .3) (sample-of-is v f0 x p X P (b8 .gains-for .result) (b11 .loop .phases) (c .sample-of .result) (c .sample-of .ensures .0)) in (
       omega (arith, b10 .loop-test .taken, b11 .loop .inv .1),
       simp length-set (b11 .loop .inv .1),
-      tones-again v (freq-of b24) (gains-of b24) (b11 .loop .i) (b24 .args .out .now) (b11 .loop .out) (c .sample-of .result) (omega (arith, b10 .loop-test .taken, b11 .loop .inv .1)) (b11 .loop .inv .2) y,
+      partials-out-again v (freq-of b24) (gains-of b24) (b11 .loop .i) (b24 .args .out .now) (b11 .loop .out) (c .sample-of .result) (omega (arith, b10 .loop-test .taken, b11 .loop .inv .1)) (b11 .loop .inv .2) y,
       phases-again v (freq-of b24) (b11 .loop .i) (b11 .loop .phases) _ f0 (b11 .loop .inv .3) (b9 .frequency-at .ensures) (phases-is v f0 x p X P (b11 .loop .phases) _ (c .sample-of .ensures .1)),
       phases-keep v f0 x p X P (b11 .loop .phases) _ (b24 .pre .0) W (K .small) (c .sample-of .ensures .1) (b11 .loop .inv .4),
       pitch-stays v p f0 (hold _ (b9 .frequency-at .ok)) W K,
@@ -165,7 +165,7 @@ returns : tie.Need-returns Inv-loop μ-loop
 returns c =
     let b1 = c .before in
     let b14 = b1 .before .before .before .before .before .before .before .before .before .before .before .before .before in
-    let r = tones-full (voice b14) (freq-of b14) (gains-of b14) (b1 .loop .i) (length (b14 .args .out .now)) (b14 .args .out .now) (b1 .loop .out) (b1 .loop .phases) (omega (arith, c .loop-test .left, b1 .loop .inv .0, b1 .loop .inv .1)) refl (b1 .loop .inv .2) (b1 .loop .inv .3) in record { moves = r .0; written = r .1 }
+    let r = partials-out-full (voice b14) (freq-of b14) (gains-of b14) (b1 .loop .i) (length (b14 .args .out .now)) (b14 .args .out .now) (b1 .loop .out) (b1 .loop .phases) (omega (arith, c .loop-test .left, b1 .loop .inv .0, b1 .loop .inv .1)) refl (b1 .loop .inv .2) (b1 .loop .inv .3) in record { moves = r .0; written = r .1 }
 
 pub partials-one-by-one-spec : {M : Type 1} → statement M
 partials-one-by-one-spec =

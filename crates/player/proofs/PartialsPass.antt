@@ -2,25 +2,23 @@
 use mathlib.Core.Path.{_≡_, refl, sym, ap, _∙_, subst}
 use mathlib.Core.List.{List, _++_}
 use mathlib.Core.Bool.{Bool, true, false}
-use Prim.Native.Nat.{ℕ, _+_, _*_, _≤_, _<_}
+use Prim.Native.Nat.{ℕ, _+_, _≤_, _<_}
 use native.Mathlib.Omega.{arith}
 use lib.ListN.{length, getD, set, drop}
 use lib.Dec.{T, eqb}
 use lib.Ieee.{Float, nan, binary32, eq, fits}
-use Rattle.wire.specs.Parse.{pick}
 use Rattle.float.specs.Range.{Within}
 use Rattle.float.proofs.Identities.{same-float}
-use Rattle.float.specs.F32.{_⊗_, nearest}
+use Rattle.float.specs.F32.{nearest}
 use Rattle.voice.specs.Lists.{Filled, mapTo, upTo, steps}
 use Rattle.filters.specs.Wave.{sineOf}
-use Rattle.player.specs.Phase.{advanceOf, inverseOf, stepOf, partialFreq}
-use Rattle.player.specs.Fade.{nyquistFade}
+use Rattle.player.specs.Phase.{advanceOf, inverseOf, stepOf}
 use Rattle.voice.specs.Input.{cleaned}
 use Rattle.player.specs.Bracket.{between}
 use Rattle.voice.specs.Voice.{phaseOk, phasesOk, pitches, stretches, mainlobes}
-use Rattle.player.specs.Sound.{sidesAt, partialRow, blendCoeff, addSingle, addBlend, partialTerm, partialSum, movedPhases}
+use Rattle.player.specs.Sound.{sidesAt, stepAt, partialTerm, partialSum, movedPhases}
 use Rattle.player.specs.inner.Passes.{EntriesFit, phasesAt, partialsOut}
-use Rattle.player.specs.inner.Columns.{added}
+use Rattle.player.specs.inner.Terms.{partialAdded, sampleAdded}
 use Rattle.player.specs.inner.Tuning.{PitchAt, Tuned}
 use Rattle.player.specs.declared.constants.Constants.{Constants}
 use Rattle.player.specs.declared.pitch.kept.Pitch.{Pitch}
@@ -28,8 +26,10 @@ use Rattle.player.specs.declared.tuning.Tuning.{Tuning}
 use Rattle.voice.specs.declared.voice.Voice.{Voice}
 use Rattle.voice.proofs.Loops.{steps-again, every-at, at-every, mapTo-at, upTo-again, upTo-full}
 use Rattle.player.proofs.RangeLaws.{advance-ok, phase-passes, step-small}
+use Rattle.player.proofs.ColumnLaws.{steps-as}
 use Rattle.player.proofs.SoundLaws.{ConstantsOf, inverse-small, phase-inside}
-use Rattle.player.proofs.ToneLaws.{TunedTo, TunedVoice, tuned-voice, stays, untuned-none, moved-phases, phases-kept, tone-sound}
+use Rattle.player.proofs.TermLaws.{partial-by-one}
+use Rattle.player.proofs.PartialLaws.{TunedTo, TunedVoice, tuned-voice, stays, untuned-none, moved-phases, phases-kept, partial-sum-is}
 
 -- the phases after a sample
 pub phases-again : (v : Voice) (freq : ℕ → Float) (i : ℕ) (ps qs : List Float) (f0 : Float) → ps ≡ phasesAt v freq i → f0 ≡ cleaned (freq i) → qs ≡ movedPhases v f0 ps → qs ≡ phasesAt v freq (i + 1)
@@ -42,43 +42,43 @@ phases-first v freq = refl
 
 -- the samples: a turn of the loop writes one
 module _ (v : Voice) (freq : ℕ → Float) (g : ℕ → List Float) where
-  pub tones-first : (l : List Float) → l ≡ partialsOut v freq g 0 ++ drop 0 l
+  pub partials-out-first : (l : List Float) → l ≡ partialsOut v freq g 0 ++ drop 0 l
   unfolding partialsOut upTo
-  tones-first l = refl
+  partials-out-first l = refl
 
-  pub tones-again : (i : ℕ) (l ls : List Float) (y : Float) → i < length l → ls ≡ partialsOut v freq g i ++ drop i l → y ≡ partialSum v (cleaned (freq i)) (g i) (phasesAt v freq i)
+  pub partials-out-again : (i : ℕ) (l ls : List Float) (y : Float) → i < length l → ls ≡ partialsOut v freq g i ++ drop i l → y ≡ partialSum v (cleaned (freq i)) (g i) (phasesAt v freq i)
       → set ls i y ≡ partialsOut v freq g (i + 1) ++ drop (i + 1) l
   unfolding partialsOut
-  tones-again i l ls y h e ey = ap (λ (z : Float). set ls i z) ey ∙ upTo-again (λ i. partialSum v (cleaned (freq i)) (g i) (phasesAt v freq i)) i l ls h e
+  partials-out-again i l ls y h e ey = ap (λ (z : Float). set ls i z) ey ∙ upTo-again (λ i. partialSum v (cleaned (freq i)) (g i) (phasesAt v freq i)) i l ls h e
 
-  pub tones-full : (i n : ℕ) (l ls ps : List Float) → i ≡ n → length l ≡ n → ls ≡ partialsOut v freq g i ++ drop i l → ps ≡ phasesAt v freq i → (ps ≡ phasesAt v freq n) × (ls ≡ partialsOut v freq g n)
+  pub partials-out-full : (i n : ℕ) (l ls ps : List Float) → i ≡ n → length l ≡ n → ls ≡ partialsOut v freq g i ++ drop i l → ps ≡ phasesAt v freq i → (ps ≡ phasesAt v freq n) × (ls ≡ partialsOut v freq g n)
   unfolding partialsOut
-  tones-full i n l ls ps q h e p = (p ∙ ap (λ (z : ℕ). phasesAt v freq z) q, upTo-full (λ i. partialSum v (cleaned (freq i)) (g i) (phasesAt v freq i)) i n l ls q h e)
+  partials-out-full i n l ls ps q h e p = (p ∙ ap (λ (z : ℕ). phasesAt v freq z) q, upTo-full (λ i. partialSum v (cleaned (freq i)) (g i) (phasesAt v freq i)) i n l ls q h e)
 
 module _ (v : Voice) (x : Constants) (freq : ℕ → Float) where
   -- before sample i the phases are those of the definitions, and the columns are tuned to every frequency that compares equal to t's
-  pub record Toning (i : ℕ) (phases incs fades rows : List Float) (t : Tuning) : Type 0 where
+  pub record PartialsAt (i : ℕ) (phases incs fades rows : List Float) (t : Tuning) : Type 0 where
     pub phases-are : phases ≡ phasesAt v freq i
     pub ok : phasesOk phases (v .set .m) ≡ true
     pub tuned : (f : Float) → T (fits binary32 f) → Within 20000 1 f → eq f (t .f0) ≡ true → TunedTo v x f incs fades rows t
 
 module _ (v : Voice) (x : Constants) (X : ConstantsOf v x) (freq : ℕ → Float) (g : ℕ → List Float) where
-  pub toning-first : (incs fades rows : List Float) (t : Tuning) → phasesOk (v .state .phases) (v .set .m) ≡ true → t .f0 ≡ nan → Toning v x freq 0 (v .state .phases) incs fades rows t
-  toning-first incs fades rows t h e = record {
+  pub partials-at-first : (incs fades rows : List Float) (t : Tuning) → phasesOk (v .state .phases) (v .set .m) ≡ true → t .f0 ≡ nan → PartialsAt v x freq 0 (v .state .phases) incs fades rows t
+  partials-at-first incs fades rows t h e = record {
     phases-are = phases-first v freq;
     ok = h;
     tuned = λ f F W q. absurd (untuned-none f (ap (λ (z : Float). eq f z) (sym e) ∙ q));
   }
 
   -- one sample
-  module _ (i : ℕ) (phases incs₀ fades₀ rows₀ : List Float) (t₀ : Tuning) (G : Toning v x freq i phases incs₀ fades₀ rows₀ t₀) (f0 : Float) (ef : f0 ≡ cleaned (freq i)) (F : T (fits binary32 f0)) (W : Within 20000 1 f0)
+  module _ (i : ℕ) (phases incs₀ fades₀ rows₀ : List Float) (t₀ : Tuning) (G : PartialsAt v x freq i phases incs₀ fades₀ rows₀ t₀) (f0 : Float) (ef : f0 ≡ cleaned (freq i)) (F : T (fits binary32 f0)) (W : Within 20000 1 f0)
       (incs fades rows : List Float) (t : Tuning) (U : TunedTo v x f0 incs fades rows t) (qs : List Float) (Q : qs ≡ mapTo (λ i p. advanceOf p (getD incs i nan)) 0 (v .set .m) phases) where
     held : TunedVoice v f0 incs fades rows t
     held = tuned-voice v x X incs fades rows t f0 U
 
     -- LAW: the columns hold the phases after the sample
-    pub toning-again : Toning v x freq (i + 1) qs incs fades rows t
-    toning-again = record {
+    pub partials-at-next : PartialsAt v x freq (i + 1) qs incs fades rows t
+    partials-at-next = record {
       phases-are = phases-again v freq i phases qs f0 (G .phases-are) ef (moved-phases v f0 incs fades rows t held phases qs (G .ok) Q);
       ok = phases-kept v f0 incs fades rows t held phases qs (G .ok) Q;
       tuned = stays v x X incs fades rows t f0 F W U;
@@ -86,10 +86,10 @@ module _ (v : Voice) (x : Constants) (X : ConstantsOf v x) (freq : ℕ → Float
 
     -- LAW: what is stored is the sum of the partials
     pub sounds : (h sines : List Float) (y : Float) → h ≡ g i → Filled sines (λ i. sineOf (getD qs i nan)) (v .set .m)
-        → y ≡ steps (λ i y. pick (eqb (v .set .blend) 0) (added y (getD rows i nan) (getD rows i nan ⊗ t .mainlobe ⊗ getD fades i nan ⊗ getD h 0 nan ⊗ getD sines i nan)) (added y (blendCoeff (λ q. getD rows (q * 32 + i) nan) h (v .set .k)) (blendCoeff (λ q. getD rows (q * 32 + i) nan) h (v .set .k) ⊗ t .mainlobe ⊗ getD fades i nan ⊗ getD sines i nan))) (nearest 0 1) (v .set .m)
+        → y ≡ steps (λ i y. partialAdded (v .set .blend) (v .set .k) rows (t .mainlobe) fades h sines i y) (nearest 0 1) (v .set .m)
         → y ≡ partialSum v (cleaned (freq i)) (g i) (phasesAt v freq i)
     sounds h sines y eh A e =
-        tone-sound v f0 incs fades rows t held phases qs (G .ok) Q h sines A y e
+        partial-sum-is v f0 incs fades rows t held phases qs (G .ok) Q h sines A y e
         ∙ ap (λ (z : List Float). partialSum v f0 h z) (G .phases-are) ∙ ap (λ (z : Float). partialSum v z h (phasesAt v freq i)) ef ∙ ap (λ (z : List Float). partialSum v (cleaned (freq i)) z (phasesAt v freq i)) eh
 
 -- ---- few partials: one after the other
@@ -109,11 +109,12 @@ phases-step m f0 stretch inv ps M F S I h =
 
 module _ (v : Voice) (f0 : Float) (x : Constants) (p : Pitch) (X : ConstantsOf v x) (P : PitchOf v f0 p) where
   -- LAW: what `sample_of` answers is the sum of the partials
-  pub tone-is : (g ps : List Float) (y : Float)
-      → y ≡ steps (λ i y. pick (eqb (x .blend) 0) (addSingle y (partialRow (v .partials) (p .s) 0 i) (p .mainlobe) (nyquistFade (partialFreq (i + 1) (p .f0) (p .stretch)) (x .nyquist)) (getD g 0 nan) (advanceOf (getD ps i nan) (stepOf (i + 1) (p .f0) (p .stretch) (x .inv)))) (addBlend y (blendCoeff (λ q. partialRow (v .partials) (p .s) q i) g (x .k)) (p .mainlobe) (nyquistFade (partialFreq (i + 1) (p .f0) (p .stretch)) (x .nyquist)) (advanceOf (getD ps i nan) (stepOf (i + 1) (p .f0) (p .stretch) (x .inv))))) (nearest 0 1) (x .m)
-      → y ≡ partialSum v f0 g ps
-  unfolding partialSum partialTerm
-  tone-is g ps y e = e ∙ rw (X .0, X .1, X .2, X .3, X .4, P .2, P .3, P .1, P .0)
+  pub sample-of-is : (g ps : List Float) (y : Float) → y ≡ steps (λ i y. sampleAdded x p (v .partials) g ps i y) (nearest 0 1) (x .m) → y ≡ partialSum v f0 g ps
+  unfolding partialSum
+  sample-of-is g ps y e =
+      e
+      ∙ rw (X .0, X .1, X .2, X .3, X .4, P .2, P .3, P .1, P .0)
+      (steps-as _ _ (nearest 0 1) (v .set .m) (λ i l y. partial-by-one v f0 g i y (advanceOf (getD ps i nan) (stepAt v f0 i))))
 
   -- LAW: its phases are those after the sample
   pub phases-is : (ps ls : List Float) → ls ≡ mapTo (λ i ph. advanceOf ph (stepOf (i + 1) (p .f0) (p .stretch) (x .inv))) 0 (x .m) ps → ls ≡ movedPhases v f0 ps

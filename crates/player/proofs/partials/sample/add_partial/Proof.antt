@@ -1,4 +1,4 @@
--- `add_single` meets its contract.
+-- `add_partial` meets its contract.
 use mathlib.Core.Path.{_≡_, sym, subst, _∙_}
 use lib.Dec.{T}
 use lib.Ieee.{binary32, fits, ofBits, round}
@@ -6,8 +6,8 @@ use Rattle.filters.specs.Wave.{sineOf}
 use Rattle.filters.proofs.SineLaws.{sine-in}
 use Rattle.player.specs.Sound.{addSingle}
 use borrow.Author.Needs.{needs}
-use Rattle.player.proofs.partials.single.add_single.Statement.{statement}
-use Rattle.player.proofs.partials.single.add_single.Tie as tie
+use Rattle.player.proofs.partials.sample.add_partial.Statement.{statement}
+use Rattle.player.proofs.partials.sample.add_partial.Tie as tie
 
 nyquist-fade-requires : tie.Need-nyquist-fade-requires
 nyquist-fade-requires c κs = search needs
@@ -36,5 +36,5 @@ unfolding addSingle ofBits round
 returns-2 c =
     rw (c .if1 .left)
 
-pub add-single-spec : {M : Type 1} → statement M
-add-single-spec = tie.close (tie.spec nyquist-fade-requires sine-requires returns returns-2)
+pub add-partial-spec : {M : Type 1} → statement M
+add-partial-spec = tie.close (tie.spec nyquist-fade-requires sine-requires returns returns-2)

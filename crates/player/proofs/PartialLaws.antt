@@ -1,7 +1,7 @@
 -- The columns of a sample's partials put together to the definitions: what moves, and what is audible.
 use mathlib.Core.Path.{_≡_, refl, sym, ap, _∙_, subst}
 use mathlib.Core.List.{List, [], _∷_}
-use mathlib.Core.Bool.{Bool, true, false}
+use mathlib.Core.Bool.{Bool, true}
 use Prim.Native.Nat.{ℕ, zero, suc, _+_, _*_, _≤_, _<_}
 use native.Mathlib.Omega.{arith}
 use lib.ListN.{getD}
@@ -10,15 +10,15 @@ use lib.Ieee.{Float, nan, inf, fin, binary32, eq, fits, le}
 use Rattle.wire.specs.Parse.{pick}
 use Rattle.float.specs.Range.{Within}
 use Rattle.float.proofs.Identities.{same-float}
-use Rattle.float.specs.F32.{_⊕_, _⊗_, nearest}
+use Rattle.float.specs.F32.{nearest}
 use Rattle.voice.specs.Lists.{Filled, FilledRows, mapTo, steps, every}
 use Rattle.filters.specs.Wave.{sineOf}
 use Rattle.player.specs.Phase.{AllPhases, AllSteps, Phase, Step, advanceOf, partialFreq, stepOf}
 use Rattle.player.specs.Fade.{nyquistFade}
 use Rattle.voice.specs.Voice.{phaseOk, phasesOk, pitches, stretches, mainlobes, noiseGains}
-use Rattle.player.specs.Sound.{sidesAt, stepAt, fadeAt, partialRow, noiseRow, movedPhases, addSingle, addBlend, blendCoeff, partialTerm, partialSum}
+use Rattle.player.specs.Sound.{sidesAt, stepAt, fadeAt, partialRow, noiseRow, movedPhases, addSingle, partialTerm, partialSum}
 use Rattle.player.specs.Bracket.{bracketOf, sidesOf, between}
-use Rattle.player.specs.inner.Columns.{added}
+use Rattle.player.specs.inner.Terms.{partialAdded}
 use Rattle.player.specs.inner.Tuning.{Tuned, NoiseTuned, rowsIn}
 use Rattle.player.specs.declared.pitch.bracket.Sides.{Sides}
 use Rattle.player.specs.declared.constants.Constants.{Constants}
@@ -30,6 +30,7 @@ use Rattle.voice.proofs.Loops.{every-at, at-every, mapTo-at}
 use Rattle.player.proofs.ColumnLaws.{steps-as}
 use Rattle.player.proofs.RangeLaws.{advance-ok, phase-passes, step-small}
 use Rattle.player.proofs.SoundLaws.{ConstantsOf, phase-inside}
+use Rattle.player.proofs.TermLaws.{partial-by-one, partial-coeff-as}
 
 -- maps that agree below n
 mapped-same : (f g : ℕ → Float → Float) (k n : ℕ) (l : List Float) → ((i : ℕ) (p : Float) → k ≤ i → i < k + n → f i p ≡ g i p) → mapTo f k n l ≡ mapTo g k n l
@@ -114,39 +115,16 @@ module _ (v : Voice) (f0 : Float) (incs fades rows : List Float) (t : Tuning) (T
     sine-at : (i : ℕ) → i < v .set .m → getD sines i nan ≡ sineOf (advanceOf (getD ps i nan) (stepAt v f0 i))
     sine-at i l = S .at i l ∙ ap (λ (z : Float). sineOf z) (at-phase i l)
 
-    abbrev C : ℕ → Float
-    C i = blendCoeff (λ q. getD rows (q * 32 + i) nan) g (v .set .k)
-
-    abbrev term : Bool → ℕ → Float → Float
-    term b i y =
-        pick b (added y (getD rows i nan) (getD rows i nan ⊗ t .mainlobe ⊗ getD fades i nan ⊗ getD g 0 nan ⊗ getD sines i nan))
-        (added y (C i) (C i ⊗ t .mainlobe ⊗ getD fades i nan ⊗ getD sines i nan))
-
-    -- the coefficient of a partial of a single voice
-    first-row : (i : ℕ) → eqb (v .set .blend) 0 ≡ true → i < v .set .m → getD rows i nan ≡ partialRow (v .partials) (sidesAt v f0) 0 i
-    first-row i b l =
-        let R : FilledRows rows (λ q i. partialRow (v .partials) (sidesAt v f0) q i) 1 (v .set .m) = subst (λ (z : Bool). FilledRows rows (λ q i. partialRow (v .partials) (sidesAt v f0) q i) (pick z 1 (v .set .k)) (v .set .m)) b (T .rows-are) in
-        ap (λ (z : ℕ). getD rows z nan) (sym (nothing i)) ∙ R .at 0 i (omega arith) l
-      where
-        nothing : (i : ℕ) → 0 * 32 + i ≡ i
-        nothing i = omega arith
-
-    -- and of a blend
-    blended : (i : ℕ) → eqb (v .set .blend) 0 ≡ false → i < v .set .m → C i ≡ blendCoeff (λ q. partialRow (v .partials) (sidesAt v f0) q i) g (v .set .k)
-    unfolding blendCoeff
-    blended i b l =
-        let R : FilledRows rows (λ q i. partialRow (v .partials) (sidesAt v f0) q i) (v .set .k) (v .set .m) = subst (λ (z : Bool). FilledRows rows (λ q i. partialRow (v .partials) (sidesAt v f0) q i) (pick z 1 (v .set .k)) (v .set .m)) b (T .rows-are) in
-        steps-as _ _ (nearest 0 1) (v .set .k) (λ q h y. ap (λ (z : Float). y ⊕ getD g q nan ⊗ z) (R .at q i h l))
-
-    each : (b : Bool) → eqb (v .set .blend) 0 ≡ b → (i : ℕ) → i < v .set .m → (y : Float) → term b i y ≡ partialTerm v f0 g i y (advanceOf (getD ps i nan) (stepAt v f0 i))
-    unfolding partialTerm addSingle addBlend
-    each true b i l y = rw (b, first-row i b l, T .mainlobe, T .fading .at i l, sine-at i l)
-    each false b i l y = rw (b, blended i b l, T .mainlobe, T .fading .at i l, sine-at i l)
+    each : (i : ℕ) → i < v .set .m → (y : Float) → partialAdded (v .set .blend) (v .set .k) rows (t .mainlobe) fades g sines i y ≡ partialTerm v f0 g i y (advanceOf (getD ps i nan) (stepAt v f0 i))
+    unfolding addSingle
+    each i l y =
+        rw (partial-coeff-as (v .set .blend) (v .set .k) (λ q. getD rows (q * 32 + i) nan) (λ q. partialRow (v .partials) (sidesAt v f0) q i) g (λ q h. T .rows-are .at q i h l), T .mainlobe, T .fading .at i l, sine-at i l)
+        (partial-by-one v f0 g i y (advanceOf (getD ps i nan) (stepAt v f0 i)))
 
     -- LAW: what `partial_sum` ensures is the sum of the partials
-    pub tone-sound : (y : Float) → y ≡ steps (λ i y. term (eqb (v .set .blend) 0) i y) (nearest 0 1) (v .set .m) → y ≡ partialSum v f0 g ps
+    pub partial-sum-is : (y : Float) → y ≡ steps (λ i y. partialAdded (v .set .blend) (v .set .k) rows (t .mainlobe) fades g sines i y) (nearest 0 1) (v .set .m) → y ≡ partialSum v f0 g ps
     unfolding partialSum
-    tone-sound y e = e ∙ steps-as _ _ (nearest 0 1) (v .set .m) (λ i l y. each (eqb (v .set .blend) 0) refl i l y)
+    partial-sum-is y e = e ∙ steps-as _ _ (nearest 0 1) (v .set .m) each
 
 -- ---- columns that are filled anew
 module _ (x : Constants) (count : ℕ) (pitches stretches mainlobes partials : List Float) (f0 : Float) (p : Pitch)

@@ -7,14 +7,14 @@ use Rattle.voice.specs.Lists.{steps}
 use Rattle.player.specs.Sound.{blendCoeff, partialRow}
 use Rattle.voice.proofs.Loops.{steps-again, steps-full}
 use borrow.Author.Needs.{needs}
-use Rattle.player.proofs.partials.blend.blend_coeff.Statement.{statement}
-use Rattle.player.proofs.partials.blend.blend_coeff.Tie as tie
+use Rattle.player.proofs.partials.sample.blend_coeff.Statement.{statement}
+use Rattle.player.proofs.partials.sample.blend_coeff.Tie as tie
 
 abbrev Inv-loop : tie.InvT-loop
-Inv-loop partials gains k s i y₀ q₀ y q = (q ≤ k) × (y ≡ blendCoeff (λ q. partialRow partials s q i) gains q)
+Inv-loop partials gains k s i all y₀ q₀ y q = (q ≤ k) × (y ≡ blendCoeff (λ q. partialRow partials s q i) gains q)
 
 abbrev μ-loop : tie.MeasureT-loop
-μ-loop partials gains k s i y₀ q₀ y q = k - q
+μ-loop partials gains k s i all y₀ q₀ y q = k - q
 
 loop-holds : tie.Need-loop-holds Inv-loop μ-loop
 unfolding blendCoeff steps ofBits round
@@ -27,38 +27,14 @@ mul-at c = search needs
 add-at : tie.Need-add-at Inv-loop μ-loop
 add-at c = search needs
 
-mul-a : tie.Need-mul-a Inv-loop μ-loop
-mul-a c = search needs
-
-add-a : tie.Need-add-a Inv-loop μ-loop
-add-a c = search needs
-
-mul-b : tie.Need-mul-b Inv-loop μ-loop
-mul-b c = search needs
-
-add-b : tie.Need-add-b Inv-loop μ-loop
-add-b c = search needs
-
 mul-y : tie.Need-mul-y Inv-loop μ-loop
 mul-y c = search needs
 
 element-copy-out-y : tie.Need-element-copy-out-y Inv-loop μ-loop
 element-copy-out-y c = search needs
 
-mul-lerp : tie.Need-mul-lerp Inv-loop μ-loop
-mul-lerp c = search needs
-
-element-copy-out-lerp : tie.Need-element-copy-out-lerp Inv-loop μ-loop
-element-copy-out-lerp c = search needs
-
-mul-lerp-2 : tie.Need-mul-lerp-2 Inv-loop μ-loop
-mul-lerp-2 c = search needs
-
-element-copy-out-lerp-2 : tie.Need-element-copy-out-lerp-2 Inv-loop μ-loop
-element-copy-out-lerp-2 c = search needs
-
-lerp-requires : tie.Need-lerp-requires Inv-loop μ-loop
-lerp-requires c κs = search needs
+place-between-requires : tie.Need-place-between-requires Inv-loop μ-loop
+place-between-requires c κs = search needs
 
 add-q : tie.Need-add-q Inv-loop μ-loop
 add-q c = search needs
@@ -69,8 +45,8 @@ loop-less c = search needs
 loop-again : tie.Need-loop-again Inv-loop μ-loop
 unfolding blendCoeff
 loop-again c =
-    let b7 = c .before .before .before .before .before .before .before in
-    (omega arith, rw (c .lerp .ensures) (steps-again _ _ _ (b7 .loop .q) (b7 .loop .inv .1)))
+    let b3 = c .before .before .before in
+    (omega arith, rw (c .place-between .ensures) (steps-again _ _ _ (b3 .loop .q) (b3 .loop .inv .1)))
 
 returns : tie.Need-returns Inv-loop μ-loop
 unfolding blendCoeff
@@ -87,17 +63,9 @@ blend-coeff-spec =
     loop-holds
     mul-at
     add-at
-    mul-a
-    add-a
-    mul-b
-    add-b
     mul-y
     element-copy-out-y
-    mul-lerp
-    element-copy-out-lerp
-    mul-lerp-2
-    element-copy-out-lerp-2
-    lerp-requires
+    place-between-requires
     add-q
     loop-less
     loop-again
