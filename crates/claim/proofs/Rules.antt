@@ -1,5 +1,5 @@
 -- A voice that keeps the rules keeps them after every call; a refused call changes nothing. Assumes nothing.
-use mathlib.Core.Path.{_≡_, refl, sym, _∙_}
+use mathlib.Core.Path.{_≡_, refl, sym, subst, _∙_}
 use mathlib.Core.List.{List, [], _∷_}
 use mathlib.Core.Bool.{Bool, true, false, cond}
 use Prim.Native.Nat.{ℕ, zero, suc, _+_, _*_, _%_, _≤_, _<_}
@@ -181,7 +181,7 @@ rules-kept v (playing p) W h =
     let w = ticking v in
     let k = ticking-rules v h in
     rules-with v (blockEnd w c) h
-    (rw (← ticking-phases v)
+    (subst (λ (m : ℕ). phasesOk (blockEnd w c .phases) m ≡ true) (ticking-phases v)
     (stateAt-ok w (voice-fits w k .entries) (ticking-32 v W) (frequencyAt c 0) n (frequencies-fit (c .shape .freq) n 0 (c .freq) (A .frequencies)) (frequency-fits p 0) (phases-of w k))))
 rules-kept v resetting W h = accepted-rules (ask (keepsRules v) 13 0) v (withState v firstState) h (λ e. rules-with v firstState h (first-ok (v .set .m) (phases-most v h)))
 rules-kept v (reseeding n) W h =

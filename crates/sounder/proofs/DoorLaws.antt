@@ -23,6 +23,7 @@ use Rattle.voice.specs.Question.{accepted as accepted-by, playQuestion}
 use Rattle.voice.specs.Voice.{withState, stateOf}
 use Rattle.voice.specs.declared.voice.State.{State}
 use Rattle.voice.specs.declared.voice.Voice.{Voice}
+use Rattle.player.specs.Bands.{ticking}
 use Rattle.player.specs.Block.{blockEnd}
 use Rattle.player.specs.Play.{played, PlaysParts, PlaysIn}
 use Rattle.player.specs.declared.playing.Moved.{Moved}
@@ -82,6 +83,6 @@ pub plays-in : (v : Voice) (c : Call) (out : List Float) (m : Moved) (ps ms ys :
 unfolding played
 plays-in v c out m ps ms ys P = record {
   answered = P .answered;
-  moves = ap (withState v) (P .moves) ∙ state-moves (playQuestion v c (length out)) v (blockEnd v c);
+  moves = ap (withState v) (P .moves) ∙ state-moves (playQuestion v c (length out)) v (blockEnd (ticking v) c);
   written = P .written;
 }
