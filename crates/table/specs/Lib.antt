@@ -12,3 +12,4 @@ pub mod Desk
 pub mod Encode
 pub mod Rewrite
 pub mod Views
+pub mod inner
