@@ -1,2 +1,3 @@
 -- What only private functions cite: none of it is to be believed.
+pub mod Entry
 pub mod KeptViews
