@@ -5,16 +5,16 @@ use mathlib.Core.List.{List, [], _∷_}
 use native.Mathlib.Omega.{arith}
 use lib.ListN.{length, drop, length-drop}
 use lib.Seq.{length-take-le}
-use lib.Dec.{leb, eqb}
+use lib.Dec.{eqb}
 use Rattle.wire.specs.Parse.{refusal, Parser, ok, asked, then, many}
-use Rattle.wire.specs.Cursor.{part, takeAt, u16, u32, string}
-use Rattle.wire.proofs.Found.{u32-is, u16-is, take-is, string-is}
+use Rattle.wire.specs.Cursor.{part, u32, string}
+use Rattle.wire.proofs.Found.{u32-is, string-is}
 use Rattle.wire.proofs.Many.{went, asked-ok, many-stand, many-length}
 use Rattle.table.specs.declared.entry.EntryView.{EntryView}
 use Rattle.table.specs.declared.entry.EntryRead.{EntryRead}
-use Rattle.table.specs.Table.{Pair, PitchEntry, same}
+use Rattle.table.specs.Table.{Pair, PitchEntry}
 use Rattle.table.specs.Size.{total, pairSize, entrySize}
-use Rattle.table.specs.Image.{text, counted, pair, pairs, entry, magic, Header, header}
+use Rattle.table.specs.Image.{text, counted, pair, pairs, entry}
 use Rattle.table.specs.View.{wordList, pairList, entryAt, viewOf, PlacedRead}
 use Rattle.table.proofs.WordLaws.{length-words, counted-are}
 
@@ -124,25 +124,6 @@ entry-is i s at e a h =
 
 pub entry-end : (i : ℕ) (s : List ℕ) (at e : ℕ) (a : PitchEntry) → entry i s at ≡ ok a e → e ≡ at + entrySize a
 entry-end i s at e a h = entry-is i s at e a h .end
-
-pub header-end : (s : List ℕ) (e : ℕ) (d : Header) → header s 0 ≡ ok d e → e ≡ 14 + length (d .name)
-unfolding header
-header-end s e d h =
-    went (takeAt 4 s 0) _ d e h λ p m₁ g₁ h₁.
-    went (asked (same (part s p 4) magic) m₁ (refusal 3 0 0)) _ d e h₁ λ x m₂ g₂ h₂.
-    went (u16 s m₂) _ d e h₂ λ v m₃ g₃ h₃.
-    went (asked (leb v 1) m₃ (refusal 4 v 0)) _ d e h₃ λ y m₄ g₄ h₄.
-    went (text s m₄) _ d e h₄ λ t m₅ g₅ h₅.
-    went (u32 s m₅) _ d e h₅ λ n m₆ g₆ h₆.
-    let w₁ : m₁ ≡ 0 + 4 = take-is s 0 4 p m₁ g₁ .end in
-    let w₂ = asked-ok (same (part s p 4) magic) m₁ m₂ (refusal 3 0 0) x g₂ in
-    let w₃ : m₃ ≡ m₂ + 2 = u16-is s m₂ v m₃ g₃ .end in
-    let w₄ = asked-ok (leb v 1) m₃ m₄ (refusal 4 v 0) y g₄ in
-    let w₅ : m₅ ≡ m₄ + 4 + length t = text-end s m₄ m₅ t g₅ in
-    let w₆ : m₆ ≡ m₅ + 4 = u32-end s m₅ n m₆ g₆ in
-    let q : record { version = v; name = t; count = n } ≡ d = cc in
-    let z : m₆ ≡ e = cc in
-    rw (← q) (omega arith)
 
 -- a view whose parts stand where those of its entry do is the view of it
 abbrev view : ℕ → ℕ → ℕ → ℕ → ℕ → ℕ → ℕ → ℕ → ℕ → ℕ → ℕ → EntryView

@@ -19,7 +19,8 @@ use Rattle.table.specs.View.{entryAt, entryList, viewOf}
 use Rattle.table.specs.Views.{viewed, noView, viewsFrom, viewsOf}
 use Rattle.table.specs.inner.KeptViews.{keptViews}
 use Rattle.table.specs.Answer.{counts}
-use Rattle.table.proofs.SizeLaws.{entry-is, entry-end, header-end}
+use Rattle.table.proofs.SizeLaws.{entry-is, entry-end}
+use Rattle.table.proofs.HeaderLaws.{header-end}
 use Rattle.table.proofs.ReadLaws.{read-table, refused-is}
 
 pub viewed-length : (s : List ℕ) (views : List EntryView) (n : ℕ) → n ≤ length views → length (viewed s views n) ≡ n

@@ -7,7 +7,7 @@ ghost use Rattle.table.specs.View.{entryList};
 ghost use Rattle.table.specs.Views.{noView, ViewsRead};
 ghost use Rattle.table.specs.inner.KeptViews.{keptViews};
 ghost use Rattle.table.specs.Answer.{refusalOf, readingParsed};
-ghost use Rattle.table.specs.Baseline.{outcome};
+ghost use Rattle.table.specs.inner.Baseline.{outcome};
 ghost use Rattle.wire.specs.Parse.{refused};
 use crate::entry::EntryRead;
 use crate::entry::EntryView;

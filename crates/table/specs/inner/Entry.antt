@@ -1,4 +1,5 @@
--- An entry in the parts that the code reads by themselves: twice two numbers with a counted list, then the pairs. Cited by private functions only.
+-- An entry in the parts that the code reads by themselves: twice two numbers with a counted list, then the pairs.
+-- Cited by private functions only.
 use Prim.Native.Nat.{ℕ, _+_, _*_}
 use mathlib.Core.Path.{_≡_}
 use mathlib.Core.List.{List}
@@ -39,7 +40,15 @@ entryBy i = do
   y ← numbers
   ms ← metadata
   ask (eqb (y .first * (length (x .words) + y .second)) (length (y .words))) (refusal 6 i 0)
-  pure (record { f0Hz = x .first; stretch = x .second; partialFreqs = x .words; kChannels = y .first; jNoise = y .second; coefficients = y .words; metadata = ms })
+  pure (record {
+    f0Hz = x .first;
+    stretch = x .second;
+    partialFreqs = x .words;
+    kChannels = y .first;
+    jNoise = y .second;
+    coefficients = y .words;
+    metadata = ms;
+  })
 
 -- what the code answers, and where the parts stand
 abbrev pub numbersParsed : List ℕ → NumbersRead → Parsed Numbers

@@ -10,7 +10,7 @@ use Rattle.table.specs.declared.span.Baseline.{Baseline}
 use Rattle.table.specs.Image.{entry, entries}
 use Rattle.table.specs.View.{entryList}
 use Rattle.table.specs.Views.{viewsFrom}
-use Rattle.table.specs.Baseline.{outcome}
+use Rattle.table.specs.inner.Baseline.{outcome}
 use Rattle.table.specs.Answer.{entryParsed, readingParsed}
 use Rattle.table.proofs.SizeLaws.{placed-view}
 use Rattle.table.proofs.SpanLaws.{entries-go, entries-no, entries-end}

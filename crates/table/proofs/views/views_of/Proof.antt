@@ -47,7 +47,7 @@ returns-2 : tie.Need-returns-2
 returns-2 c =
     let b2 = c .before .before in
     let b4 = b2 .before .before in
-    let p = read-no _ _ (b4 .before .if1 .left) (sym (b4 .header-at .ensures) ∙ ap (headerParsed _) (b2 .e .given .1)) in
+    let p = read-no _ _ (b4 .before .if1 .left) (sym (b4 .header-at .ensures .0) ∙ ap (headerParsed _) (b2 .e .given .1)) in
     record { reading = c .no-views2 .ensures .0 ∙ sym (ap counts p); views = c .no-views2 .ensures .1 ∙ sym (ap viewsOf p) }
 
 -- src/views.rt:89:1
@@ -55,7 +55,7 @@ returns-3 : tie.Need-returns-3
 returns-3 c =
     let b3 = c .before .before .before in
     let b5 = b3 .before .before in
-    let g = sym (b5 .header-at .ensures) ∙ ap (headerParsed _) (b3 .h .given .1) in
+    let g = sym (b5 .header-at .ensures .0) ∙ ap (headerParsed _) (b3 .h .given .1) in
     let e = c .views-at .ensures .0 ∙ sym (read-go _ _ _ (b5 .before .if1 .left) g) in
     record { reading = e; views = c .views-at .ensures .1 ∙ kept-are _ _ _ _ g e }
 
