@@ -1,5 +1,6 @@
 // The fixed list of the original's answers on reading and rewriting, for a program that needs no Rust (words.rs has the words).
 // A record: the image (length, bytes); a channel; the read's number, first, second; the name's start and length;
+// of a reader set at byte 0, then at byte 6, the number that it answers to `string` and the position that it comes to;
 // the desk's bands, min_hz, max_hz for a single voice of the channel, then for a blend;
 // the target before rewriting (length, bytes); the rewriting's number, first, second; the target afterwards (length, bytes).
 use crate::image::Table;
@@ -7,6 +8,7 @@ use crate::rand::Rand;
 use crate::reading::{Case, any_case, expected_desk, expected_read, fixed_cases};
 use crate::tally::Tally;
 use crate::words::{self, Words};
+use oracle::shim;
 use std::sync::Arc;
 
 // The record, and the numbers of the read and of the rewriting.
@@ -23,6 +25,13 @@ fn record(c: &Case) -> (Words, [u32; 2]) {
     w.n(if read.is_ok() { 10 } else { 0 });
     w.expect("the name's length");
     w.n(read.as_ref().map_or(0, |t| t.name.len()));
+    for pos in [0, 6] {
+        let (number, end) = shim::string_at(&c.image, pos);
+        w.expect("a string's number");
+        w.n(number as usize);
+        w.expect("a string's end");
+        w.n(end);
+    }
     for (kind, what) in [
         (0, ["a single voice's bands", "a single voice's min_hz", "a single voice's max_hz"]),
         (1, ["a blend's bands", "a blend's min_hz", "a blend's max_hz"]),
@@ -65,9 +74,12 @@ pub fn write(n: usize, seed: u64, path: &str) {
         }
     });
     let mut r = Rand(seed);
-    let mut records: Vec<Words> = (0..2).map(|more| record(&Case { image: long_image(more), channel: 0, slack: 0 }).0).collect();
+    // a length without its byte, and with one that is not UTF-8: a reader is moved past what is there
+    let strings = [vec![1, 0, 0, 0], vec![1, 0, 0, 0, 0xFF]];
+    let first = (0..2).map(long_image).chain(strings);
+    let mut records: Vec<Words> = first.map(|image| record(&Case { image, channel: 0, slack: 0 }).0).collect();
     let mut numbers = [0; 18];
-    (numbers[0], numbers[1]) = (1, 1);
+    (numbers[0], numbers[1], numbers[2], numbers[3]) = (1, 1, 0, 2);
     // no answer takes more than a fifth of the list
     while records.len() < n {
         let c = if r.chance(50) { fixed[r.below(fixed.len())].clone() } else { any_case(&mut r) };

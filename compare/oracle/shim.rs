@@ -1,5 +1,6 @@
 // The substitutions of document 01 (the wave S, the band centres), and what the comparison takes from the original.
 use crate::coeff_table::{CoeffTable, CoeffTableCodecError};
+use crate::wire::{Reader, WireError};
 use alloc::vec::Vec;
 use std::cell::RefCell;
 
@@ -66,6 +67,17 @@ pub fn rung(n: usize) {
 
 pub fn take_rung() -> Vec<usize> {
     RUNG.with(|x| std::mem::take(&mut *x.borrow_mut()))
+}
+
+// A string at a position: document 01's number for the answer, and the position that the reader has come to.
+pub fn string_at(image: &[u8], pos: usize) -> (u32, usize) {
+    let mut r = Reader { buf: image, pos };
+    let number = match r.string() {
+        Ok(_) => 0,
+        Err(WireError::UnexpectedEof) => 2,
+        Err(WireError::BadUtf8) => 5,
+    };
+    (number, r.pos)
 }
 
 // A read, with document 01's number and values for each error.

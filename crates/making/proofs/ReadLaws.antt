@@ -11,6 +11,7 @@ use borrow.Author.Tests.{lt-leb}
 use Rattle.wire.specs.Parse.{refusal, ok, refused}
 use Rattle.table.specs.declared.desk.Kind.{Kind}
 use Rattle.table.specs.declared.read.Reading.{Reading}
+use Rattle.table.specs.declared.entry.EntryView.{EntryView}
 use Rattle.table.specs.declared.views.Views.{Views}
 use Rattle.table.specs.declared.error.CoeffTableCodecError.{CoeffTableCodecError}
 use Rattle.table.specs.Table.{PitchEntry, CoeffTable}
@@ -18,6 +19,7 @@ use Rattle.table.specs.Answer.{refusalOf, readingParsed}
 use Rattle.table.specs.Decode.{decode}
 use Rattle.table.specs.Views.{viewed, ViewsRead}
 use Rattle.table.proofs.ReadLaws.{accepted, refused-is}
+use Rattle.table.proofs.ViewsLaws.{views-lead}
 use Rattle.voice.specs.Question as question
 use Rattle.making.specs.Making.{Making, limitsOk, tableQuestion, makeOf, makeQuestion, freshVoice, blankVoice}
 use Rattle.making.proofs.CoeffLaws.{refused-number}
@@ -26,7 +28,7 @@ use Rattle.making.proofs.CoeffLaws.{refused-number}
 pub table-read : {G : Type 0} (s : List ℕ) (r : Views) (n e : ℕ) → ViewsRead s r → r .reading ≡ Reading.Accepted n e
     → ((t : CoeffTable) → decode s ≡ ok t e → length (t .entries) ≡ n → (n ≤ 16 → viewed s (r .views) n ≡ t .entries) → G) → G
 table-read s r n e v q k = accepted s n e (sym (v .reading) ∙ ap readingParsed q) λ t p l.
-    k t p l λ h. let w = rw p at (v .views) in ap (viewed s (r .views)) (sym l) ∙ w (omega arith)
+    k t p l λ h. ap (λ (views : List EntryView). viewed s views n) (v .views) ∙ views-lead s t e n p l h
 
 pub table-refused : (s : List ℕ) (r : Views) (e : CoeffTableCodecError) → ViewsRead s r → r .reading ≡ Reading.Refused e → decode s ≡ refused (refusalOf e)
 table-refused s r e v q = refused-is s (refusalOf e) (sym (v .reading) ∙ ap readingParsed q)

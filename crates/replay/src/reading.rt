@@ -16,6 +16,8 @@ use sounder::images::sounder_desk;
 use sounder::images::sounder_from_bytes;
 use sounder::images::sounder_name;
 use sounder::images::sounder_to_bytes;
+use wire::cursor::StringRead;
+use wire::reader::string_from;
 
 fn read(t: Tally, r: &[u8], at: usize, ours: Answer) -> Tally {
     let t = same(t, b"the read's number", 0, ours.number, word(r, at));
@@ -45,6 +47,20 @@ fn named(t: Tally, r: &[u8], at: usize, image: &[u8]) -> Tally {
         narrow(p.len),
         word(r, place(at, 1)),
     )
+}
+
+// What a reader answers to `string`, and the position that it comes to.
+fn string_told(t: Tally, r: &[u8], at: usize, number: u32, end: usize) -> Tally {
+    let t = same(t, b"a string's number", 0, number, word(r, at));
+    same(t, b"a string's end", 0, narrow(end), word(r, place(at, 1)))
+}
+
+fn string_read(t: Tally, r: &[u8], at: usize, image: &[u8], pos: usize) -> Tally {
+    match string_from(image, pos) {
+        StringRead::Value(_, _, c) => string_told(t, r, at, 0, c.at),
+        StringRead::UnexpectedEof(c) => string_told(t, r, at, 2, c.at),
+        StringRead::BadUtf8(c) => string_told(t, r, at, 5, c.at),
+    }
 }
 
 // The desk of a refused image has the read's answer, and of another none.
@@ -171,7 +187,9 @@ pub fn record(t: Tally, r: &[u8]) -> Tally {
     let t = answered(t, a.number);
     let t = read(t, r, place(at, 1), a);
     let t = named(t, r, place(at, 4), image);
-    let t = desk(t, r, place(at, 6), sounder_desk(0, channel, image), a);
-    let t = desk(t, r, place(at, 9), sounder_desk(1, channel, image), a);
-    rewriting(t, r, place(at, 12), image)
+    let t = string_read(t, r, place(at, 6), image, 0);
+    let t = string_read(t, r, place(at, 8), image, 6);
+    let t = desk(t, r, place(at, 10), sounder_desk(0, channel, image), a);
+    let t = desk(t, r, place(at, 13), sounder_desk(1, channel, image), a);
+    rewriting(t, r, place(at, 16), image)
 }

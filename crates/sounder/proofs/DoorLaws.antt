@@ -6,7 +6,7 @@ use native.Mathlib.Omega.{arith}
 use lib.Ieee.{Float}
 use lib.ListN.{length, drop, length-drop}
 use lib.Seq.{length-take-le}
-use Rattle.wire.specs.Parse.{ok}
+use Rattle.wire.specs.Parse.{Parsed, ok, refused}
 use Rattle.wire.specs.Cursor.{part, string}
 use Rattle.wire.proofs.Found.{string-is}
 use Rattle.wire.proofs.Many.{went}
@@ -15,9 +15,9 @@ use Rattle.table.specs.declared.error.CoeffTableCodecError.{CoeffTableCodecErro
 use Rattle.table.specs.Table.{CoeffTable}
 use Rattle.table.specs.Image.{text}
 use Rattle.table.specs.Decode.{decode, nameOf}
-use Rattle.table.specs.Answer.{counts, refusalOf}
+use Rattle.table.specs.Name.{nameStart}
+use Rattle.table.specs.Answer.{refusalOf}
 use Rattle.table.proofs.Spelled.{table-parts, header-parts}
-use Rattle.table.proofs.ReadLaws.{accepted}
 use Rattle.voice.specs.Input.{Call}
 use Rattle.voice.specs.Question.{accepted as accepted-by, playQuestion}
 use Rattle.voice.specs.Voice.{withState, stateOf}
@@ -53,11 +53,16 @@ name-part s t e h =
     header-parts s d at (p .head) λ m q.
     rw (p .whole) (text-part s 6 m (d .name) (q .name))
 
-pub name-of-accepted : (s : List ℕ) (n e : ℕ) → counts (decode s) ≡ ok n e → part s 10 (length (nameOf (decode s))) ≡ nameOf (decode s)
-name-of-accepted s n e h = accepted s n e h λ t p l. rw p (name-part s t e p)
+pub name-held : (s : List ℕ) → part s (nameStart (decode s)) (length (nameOf (decode s))) ≡ nameOf (decode s)
+name-held s = go (decode s) refl
+  where
+    go : (p : Parsed CoeffTable) → decode s ≡ p → part s (nameStart p) (length (nameOf p)) ≡ nameOf p
+    go (ok t e) h = name-part s t e h
+    go (refused r) h = refl
 
-pub place-of-accepted : (s : List ℕ) (n e : ℕ) → counts (decode s) ≡ ok n e → record { start = 10; len = length (nameOf (decode s)) } ≡ namePlace (decode s)
-place-of-accepted s n e h = accepted s n e h λ t p l. rw p refl
+pub name-placed : (p : Parsed CoeffTable) → record { start = nameStart p; len = length (nameOf p) } ≡ namePlace p
+name-placed (ok t e) = refl
+name-placed (refused r) = refl
 
 -- no refusal has the numbers of an accepted call
 numbered : (e : CoeffTableCodecError) → refusalOf e .number ≡ 0 → ⊥

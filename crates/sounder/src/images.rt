@@ -15,6 +15,7 @@ use table::desk::for_voice;
 use table::read::Reading;
 use table::read::from_bytes;
 use table::read::name;
+use table::read::name_at;
 use table::rewrite::Rewriting;
 use table::rewrite::to_bytes;
 
@@ -101,11 +102,10 @@ pub extern "C" fn sounder_name(image: &[u8]) -> Place
     ensures holds { λ r. ⌜ part (now (image .entry)) (r .start) (r .len) ≡ nameOf (decode (now (image .entry))) ⌝ }
     ensures placed { λ r. ⌜ r ≡ namePlace (decode (now (image .entry))) ⌝ }
 {
-    match from_bytes(image) {
-        Reading::Accepted(_, _) => {
-            let n = name(image).len();
-            Place { start: 10, len: n }
-        }
-        Reading::Refused(_) => Place { start: 0, len: 0 },
+    let start = name_at(image);
+    let part = name(image);
+    Place {
+        start,
+        len: part.len(),
     }
 }

@@ -1,15 +1,16 @@
 -- Laws of the desk's values over the entries. Assumes nothing.
 use Prim.Native.Nat.{ℕ, _+_, _-_, _<_, max}
-use mathlib.Core.Path.{_≡_, ap, sym, _∙_}
+use mathlib.Core.Path.{_≡_, refl, ap, sym, _∙_}
 use mathlib.Core.List.{List, [], _∷_}
 use native.Mathlib.Omega.{arith}
+use lib.Ieee.{ofInt, toBits, round}
 use Rattle.wire.specs.Parse.{Refusal, ok, refused, standing}
 use Rattle.wire.proofs.Many.{whole, stand-go, stand-no, stand-end}
 use Rattle.table.specs.declared.desk.Kind.{Kind}
 use Rattle.table.specs.Table.{PitchEntry, metadataValue}
 use Rattle.table.specs.Image.{entry}
 use Rattle.table.specs.View.{entryList}
-use Rattle.table.specs.Desk.{bandsOf, bandCount, orElse, firstValue}
+use Rattle.table.specs.Desk.{bandsOf, bandCount, orElse, firstValue, bitsOf}
 
 pub bands-go : (k : Kind) (best : ℕ) (s : List ℕ) (i n at next : ℕ) (e : PitchEntry) → i < n → entry i s at ≡ ok e next
     → max best (bandCount k (standing entry i (n - i) s at)) ≡ max (max best (bandsOf k e)) (bandCount k (standing entry (i + 1) (n - (i + 1)) s next))
@@ -19,6 +20,15 @@ bands-go k best s i n at next e h g = rw (stand-go entry s i n at next e h g) (o
 pub bands-none : (k : Kind) (best : ℕ) (l : List PitchEntry) → l ≡ [] → max best (bandCount k l) ≡ best
 unfolding bandCount
 bands-none k best l h = rw h (omega arith)
+
+-- the patterns that the code has for 80 and 12,000
+pub eighty : bitsOf 80 ≡ 0x42A00000
+unfolding bitsOf toBits ofInt round
+eighty = refl
+
+pub twelve-thousand : bitsOf 12000 ≡ 0x463B8000
+unfolding bitsOf toBits ofInt round
+twelve-thousand = refl
 
 -- a key's value in the first entry, by what stands there
 first-cons : (key : List ℕ) (d : ℕ) (n : ℕ) (s : List ℕ) (at : ℕ) (l : List PitchEntry) → standing entry 0 (n - 0) s at ≡ l → firstValue key d (entryList n s at) ≡ firstValue key d l

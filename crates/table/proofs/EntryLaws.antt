@@ -2,18 +2,19 @@
 use Prim.Native.Nat.{ℕ, zero, suc, _+_, _*_, _^_, _≤_, _<_}
 use mathlib.Core.Path.{_≡_, refl, ap, sym, _∙_}
 use mathlib.Core.List.{List}
-use mathlib.Core.Bool.{true, false}
+use mathlib.Core.Bool.{Bool, false}
 use native.Mathlib.Omega.{arith}
 use native.Mathlib.Nat.{zero-mul, mul-comm, le-mul-of-pos-right, mul-le-mul}
-use lib.ListN.{getD}
+use lib.ListN.{length, getD}
 use lib.Dec.{eqb, eqb·zero-suc, eqb·suc-zero, eqb·suc-suc}
 use borrow.Author.Tests.{ne-eqb, lt-ltb, le-ltb}
-use Rattle.wire.specs.Parse.{ok}
+use Rattle.wire.specs.Parse.{Refusal, refusal, Parsed, ok, refused, asked, then}
 use Rattle.wire.specs.Cursor.{u32}
 use Rattle.table.specs.declared.entry.EntryView.{EntryView}
-use Rattle.table.specs.Table.{coefficientAt, width}
+use Rattle.table.specs.Table.{Pair, coefficientAt, width}
 use Rattle.table.specs.Image.{counted, pairs, entry}
-use Rattle.table.specs.View.{wordList, pairList, entryAt}
+use Rattle.table.specs.View.{entryAt}
+use Rattle.table.specs.inner.Entry.{Numbers, numbers, metadata, entryBy}
 use Rattle.table.proofs.WordLaws.{length-words, word-past}
 
 eqb-sym : (a b : ℕ) → eqb a b ≡ eqb b a
@@ -38,14 +39,62 @@ product-fits a b p q =
     let y : b ≤ 4294967295 = omega arith in
     mul-le-mul x y
 
-pub entry-ok : (i : ℕ) (s : List ℕ) (at f st m ma k j n na q qa c₁ c₂ c₃ c₄ c₅ c₆ end : ℕ)
-    → u32 s at ≡ ok f c₁ → u32 s c₁ ≡ ok st c₂ → counted s c₂ ≡ ok (wordList s ma m) c₃
-    → u32 s c₃ ≡ ok k c₄ → u32 s c₄ ≡ ok j c₅ → counted s c₅ ≡ ok (wordList s na n) c₆
-    → u32 s c₆ ≡ ok q qa → pairs q s qa ≡ ok (pairList q s qa) end → eqb (k * (m + j)) n ≡ true
-    → entry i s at ≡ ok (record { f0Hz = f; stretch = st; partialFreqs = wordList s ma m; kChannels = k; jNoise = j; coefficients = wordList s na n; metadata = pairList q s qa }) end
-unfolding entry
-entry-ok i s at f st m ma k j n na q qa c₁ c₂ c₃ c₄ c₅ c₆ end e₁ e₂ e₃ e₄ e₅ e₆ e₇ e₈ t =
-    rw (e₁, e₂, e₃, e₄, e₅, e₆, e₇, e₈, length-words s ma m, length-words s na n, t) refl
+-- ---- an entry by the parts that the code reads
+abbrev numbersOf : ℕ → ℕ → List ℕ → Numbers
+numbersOf a b l = record { first = a; second = b; words = l }
+
+-- what follows two numbers and a counted list, field by field
+module _ {B : Type 0} (s : List ℕ) (g : Numbers → ℕ → Parsed B) (f : ℕ → ℕ → List ℕ → ℕ → Parsed B) (alike : (a b : ℕ) (l : List ℕ) (e : ℕ) → g (numbersOf a b l) e ≡ f a b l e) where
+  by-list : (a b : ℕ) (p : Parsed (List ℕ)) → then (then p (λ l e. ok (numbersOf a b l) e)) g ≡ then p (λ l e. f a b l e)
+  by-list a b (ok l e) = alike a b l e
+  by-list a b (refused r) = refl
+
+  by-second : (a : ℕ) (p : Parsed ℕ) → then (then p (λ b n. then (counted s n) (λ l e. ok (numbersOf a b l) e))) g ≡ then p (λ b n. then (counted s n) (λ l e. f a b l e))
+  by-second a (ok b n) = by-list a b (counted s n)
+  by-second a (refused r) = refl
+
+  by-first : (p : Parsed ℕ) → then (then p (λ a m. then (u32 s m) (λ b n. then (counted s n) (λ l e. ok (numbersOf a b l) e)))) g ≡ then p (λ a m. then (u32 s m) (λ b n. then (counted s n) (λ l e. f a b l e)))
+  by-first (ok a m) = by-second a (u32 s m)
+  by-first (refused r) = refl
+
+  numbers-then : (at : ℕ) → then (numbers s at) g ≡ then (u32 s at) (λ a m. then (u32 s m) (λ b n. then (counted s n) (λ l e. f a b l e)))
+  unfolding numbers
+  numbers-then at = by-first (u32 s at)
+
+metadata-then : {B : Type 0} (s : List ℕ) (at : ℕ) (g : List Pair → ℕ → Parsed B) → then (metadata s at) g ≡ then (u32 s at) (λ q m. then (pairs q s m) g)
+unfolding metadata
+metadata-then s at g = go (u32 s at)
+  where
+    go : (p : Parsed ℕ) → then (then p (λ q m. pairs q s m)) g ≡ then p (λ q m. then (pairs q s m) g)
+    go (ok q m) = refl
+    go (refused r) = refl
+
+-- LAW: an entry is these parts
+pub entry-by : (i : ℕ) (s : List ℕ) (at : ℕ) → entry i s at ≡ entryBy i s at
+unfolding entry entryBy
+entry-by i s at = sym (numbers-then s _ _ (λ f st fs e. numbers-then s _ _ (λ k j cs n. metadata-then s n _) e) at)
+
+-- an entry by what the code found at each part
+module _ (i : ℕ) (s : List ℕ) (at : ℕ) where
+  pub no-numbers : (r : Refusal) → numbers s at ≡ refused r → entry i s at ≡ refused r
+  unfolding entryBy
+  no-numbers r e = entry-by i s at ∙ rw e refl
+
+  module _ (x : Numbers) (c₁ : ℕ) (e₁ : numbers s at ≡ ok x c₁) where
+    pub no-rows-after : (r : Refusal) → numbers s c₁ ≡ refused r → entry i s at ≡ refused r
+    unfolding entryBy
+    no-rows-after r e = entry-by i s at ∙ rw (e₁, e) refl
+
+    module _ (y : Numbers) (c₂ : ℕ) (e₂ : numbers s c₁ ≡ ok y c₂) where
+      pub no-pairs-after : (r : Refusal) → metadata s c₂ ≡ refused r → entry i s at ≡ refused r
+      unfolding entryBy
+      no-pairs-after r e = entry-by i s at ∙ rw (e₁, e₂, e) refl
+
+      module _ (ms : List Pair) (end : ℕ) (e₃ : metadata s c₂ ≡ ok ms end)
+          (m n : ℕ) (lx : length (x .words) ≡ m) (ly : length (y .words) ≡ n) (b : Bool) (t : eqb (y .first * (m + y .second)) n ≡ b) where
+        pub entry-then : entry i s at ≡ then (asked b end (refusal 6 i 0)) (λ _ e. ok (record { f0Hz = x .first; stretch = x .second; partialFreqs = x .words; kChannels = y .first; jNoise = y .second; coefficients = y .words; metadata = ms }) e)
+        unfolding entryBy
+        entry-then = entry-by i s at ∙ rw (e₁, e₂, e₃, lx, ly, t) refl
 
 -- a coefficient of a view's entry, by the tests of the code
 module _ (s : List ℕ) (v : EntryView) (c column : ℕ) where

@@ -3,8 +3,10 @@ pub mod WordLaws
 pub mod MetadataLaws
 pub mod SizeLaws
 pub mod EntryLaws
+pub mod HeaderLaws
 pub mod SpanLaws
 pub mod ReadLaws
+pub mod AcceptedLaws
 pub mod DeskLaws
 pub mod LookupLaws
 pub mod StartLaws

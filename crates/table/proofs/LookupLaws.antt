@@ -12,7 +12,8 @@ use Rattle.table.specs.Decode.{decode}
 use Rattle.table.specs.View.{entryList, viewOf}
 use Rattle.table.specs.Answer.{counts}
 use Rattle.table.specs.Lookup.{viewFrom, viewOfIndex}
-use Rattle.table.proofs.SizeLaws.{entry-end, header-end}
+use Rattle.table.proofs.SizeLaws.{entry-end}
+use Rattle.table.proofs.HeaderLaws.{header-end}
 use Rattle.table.proofs.ReadLaws.{read-table}
 
 module _ (s : List ℕ) (i n at next : ℕ) (e : PitchEntry) (h : i < n) (g : entry i s at ≡ ok e next) where

@@ -13,7 +13,7 @@ use Rattle.table.specs.declared.span.Baseline.{Baseline}
 use Rattle.table.specs.Table.{CoeffTable, PitchEntry}
 use Rattle.table.specs.Image.{Header, header, entry, entries}
 use Rattle.table.specs.Span.{Verdict, agreed, broken, consistent, ruled}
-use Rattle.table.specs.Baseline.{verdictFrom, concluded, outcome}
+use Rattle.table.specs.inner.Baseline.{verdictFrom, concluded, outcome}
 use Rattle.table.specs.Decode.{decode}
 use Rattle.table.specs.View.{entryList}
 use Rattle.table.specs.Answer.{counts}

@@ -5,18 +5,18 @@ use mathlib.Core.List.{List, [], _∷_}
 use native.Mathlib.Omega.{arith}
 use lib.ListN.{length, drop, length-drop}
 use lib.Seq.{length-take-le}
-use lib.Dec.{leb, eqb}
+use lib.Dec.{eqb}
 use Rattle.wire.specs.Parse.{refusal, Parser, ok, asked, then, many}
-use Rattle.wire.specs.Cursor.{part, takeAt, u16, u32, string}
-use Rattle.wire.proofs.Found.{u32-is, u16-is, take-is, string-is}
-use Rattle.wire.proofs.Many.{went, asked-ok}
+use Rattle.wire.specs.Cursor.{part, u32, string}
+use Rattle.wire.proofs.Found.{u32-is, string-is}
+use Rattle.wire.proofs.Many.{went, asked-ok, many-stand, many-length}
 use Rattle.table.specs.declared.entry.EntryView.{EntryView}
 use Rattle.table.specs.declared.entry.EntryRead.{EntryRead}
-use Rattle.table.specs.Table.{Pair, PitchEntry, same}
+use Rattle.table.specs.Table.{Pair, PitchEntry}
 use Rattle.table.specs.Size.{total, pairSize, entrySize}
-use Rattle.table.specs.Image.{text, counted, pair, pairs, entry, magic, Header, header}
-use Rattle.table.specs.View.{pairList, entryAt, viewOf, PlacedRead}
-use Rattle.table.proofs.WordLaws.{length-words}
+use Rattle.table.specs.Image.{text, counted, pair, pairs, entry}
+use Rattle.table.specs.View.{wordList, pairList, entryAt, viewOf, PlacedRead}
+use Rattle.table.proofs.WordLaws.{length-words, counted-are}
 
 pub u32-end : (s : List ℕ) (at v e : ℕ) → u32 s at ≡ ok v e → e ≡ at + 4
 u32-end s at v e h = u32-is s at v e h .end
@@ -79,9 +79,20 @@ pair-end s at e a h =
 pub pairs-end : (n : ℕ) (s : List ℕ) (at e : ℕ) (l : List Pair) → pairs n s at ≡ ok l e → e ≡ at + total pairSize l
 pairs-end n s at e l h = many-end (λ i. pair) pairSize s (λ i at e a. pair-end s at e a) n 0 at e l h
 
-pub entry-end : (i : ℕ) (s : List ℕ) (at e : ℕ) (a : PitchEntry) → entry i s at ≡ ok a e → e ≡ at + entrySize a
+-- an entry that was read: where it ends, and that its view leads back to it
+pub record IsEntry (s : List ℕ) (at e : ℕ) (a : PitchEntry) : Type 0 where
+  pub end : e ≡ at + entrySize a
+  pub view : entryAt s (viewOf at a) ≡ a
+
+abbrev entryOf : ℕ → ℕ → List ℕ → ℕ → ℕ → List ℕ → List Pair → PitchEntry
+entryOf f st fs k j cs ms = record { f0Hz = f; stretch = st; partialFreqs = fs; kChannels = k; jNoise = j; coefficients = cs; metadata = ms }
+
+entry-eq : (f st k j : ℕ) {fs cs fs′ cs′ : List ℕ} {ms ms′ : List Pair} → fs ≡ fs′ → cs ≡ cs′ → ms ≡ ms′ → entryOf f st fs k j cs ms ≡ entryOf f st fs′ k j cs′ ms′
+entry-eq f st k j h₁ h₂ h₃ = rw (h₁, h₂, h₃) refl
+
+pub entry-is : (i : ℕ) (s : List ℕ) (at e : ℕ) (a : PitchEntry) → entry i s at ≡ ok a e → IsEntry s at e a
 unfolding entry
-entry-end i s at e a h =
+entry-is i s at e a h =
     went (u32 s at) _ a e h λ f m₁ g₁ h₁.
     went (u32 s m₁) _ a e h₁ λ st m₂ g₂ h₂.
     went (counted s m₂) _ a e h₂ λ fs m₃ g₃ h₃.
@@ -101,27 +112,18 @@ entry-end i s at e a h =
     let w₈ : m₈ ≡ m₇ + total pairSize ms = pairs-end n s m₇ m₈ ms g₈ in
     let w = asked-ok (eqb (k * (length fs + j)) (length cs)) m₈ m₉ (refusal 6 i 0) x g₉ in
     let z : m₉ ≡ e = cc in
-    let q : record { f0Hz = f; stretch = st; partialFreqs = fs; kChannels = k; jNoise = j; coefficients = cs; metadata = ms } ≡ a = cc in
-    rw (← q) (omega arith)
+    let q : entryOf f st fs k j cs ms ≡ a = cc in
+    let p₁ : m₂ + 4 ≡ at + 12 = omega arith in
+    let p₂ : m₅ + 4 ≡ at + 24 + 4 * length fs = omega arith in
+    let p₃ : m₇ ≡ at + 28 + 4 * length fs + 4 * length cs = omega arith in
+    let v₁ : wordList s (at + 12) (length fs) ≡ fs = rw (← p₁) (counted-are s m₂ m₃ fs g₃) in
+    let v₂ : wordList s (at + 24 + 4 * length fs) (length cs) ≡ cs = rw (← p₂) (counted-are s m₅ m₆ cs g₆) in
+    let v₃ : pairList (length ms) s (at + 28 + 4 * length fs + 4 * length cs) ≡ ms =
+    rw (← p₃, many-length (λ i. pair) s n 0 m₇ m₈ ms g₈) (many-stand (λ i. pair) s n 0 m₇ m₈ ms g₈) in
+    rw (← q) (record { end = omega arith; view = entry-eq f st k j v₁ v₂ v₃ })
 
-pub header-end : (s : List ℕ) (e : ℕ) (d : Header) → header s 0 ≡ ok d e → e ≡ 14 + length (d .name)
-unfolding header
-header-end s e d h =
-    went (takeAt 4 s 0) _ d e h λ p m₁ g₁ h₁.
-    went (asked (same (part s p 4) magic) m₁ (refusal 3 0 0)) _ d e h₁ λ x m₂ g₂ h₂.
-    went (u16 s m₂) _ d e h₂ λ v m₃ g₃ h₃.
-    went (asked (leb v 1) m₃ (refusal 4 v 0)) _ d e h₃ λ y m₄ g₄ h₄.
-    went (text s m₄) _ d e h₄ λ t m₅ g₅ h₅.
-    went (u32 s m₅) _ d e h₅ λ n m₆ g₆ h₆.
-    let w₁ : m₁ ≡ 0 + 4 = take-is s 0 4 p m₁ g₁ .end in
-    let w₂ = asked-ok (same (part s p 4) magic) m₁ m₂ (refusal 3 0 0) x g₂ in
-    let w₃ : m₃ ≡ m₂ + 2 = u16-is s m₂ v m₃ g₃ .end in
-    let w₄ = asked-ok (leb v 1) m₃ m₄ (refusal 4 v 0) y g₄ in
-    let w₅ : m₅ ≡ m₄ + 4 + length t = text-end s m₄ m₅ t g₅ in
-    let w₆ : m₆ ≡ m₅ + 4 = u32-end s m₅ n m₆ g₆ in
-    let q : record { version = v; name = t; count = n } ≡ d = cc in
-    let z : m₆ ≡ e = cc in
-    rw (← q) (omega arith)
+pub entry-end : (i : ℕ) (s : List ℕ) (at e : ℕ) (a : PitchEntry) → entry i s at ≡ ok a e → e ≡ at + entrySize a
+entry-end i s at e a h = entry-is i s at e a h .end
 
 -- a view whose parts stand where those of its entry do is the view of it
 abbrev view : ℕ → ℕ → ℕ → ℕ → ℕ → ℕ → ℕ → ℕ → ℕ → ℕ → ℕ → EntryView

@@ -15,7 +15,7 @@ use Rattle.table.specs.declared.span.Baseline.{Baseline}
 use Rattle.table.specs.Table.{PitchEntry}
 use Rattle.table.specs.Image.{entry}
 use Rattle.table.specs.Span.{spanOf, floatEq, inconsistent, agree}
-use Rattle.table.specs.Baseline.{judged, verdictFrom, concluded, outcome}
+use Rattle.table.specs.inner.Baseline.{judged, verdictFrom, concluded, outcome}
 
 true-false : false ≡ true → ⊥
 true-false h = let z : _≡_ {A = ℕ} 0 1 = cc in omega arith

@@ -6,7 +6,7 @@ use lib.ListN.{length}
 use lib.Dec.{leb}
 use Rattle.wire.specs.Parse.{refusal, ok, asked}
 use Rattle.wire.proofs.Many.{went, asked-ok, many-length}
-use Rattle.table.proofs.SizeLaws.{header-end}
+use Rattle.table.proofs.HeaderLaws.{header-end}
 use Rattle.table.specs.Table.{CoeffTable}
 use Rattle.table.specs.Image.{Header, header, entry, entries}
 use Rattle.table.specs.Span.{consistent, ruled}

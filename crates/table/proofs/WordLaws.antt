@@ -1,14 +1,15 @@
 -- Laws of 32-bit numbers that stand one after the other, and of a count with its numbers. Assumes nothing.
 use Prim.Native.Nat.{ℕ, zero, suc, _+_, _*_, _≤_, _<_}
 use mathlib.Core.Path.{_≡_, refl, ap, _∙_}
-use mathlib.Core.List.{List, []}
+use mathlib.Core.List.{List, [], _∷_}
 use native.Mathlib.Omega.{arith}
 use native.Mathlib.Decide.{decLe}
 use lib.ListN.{length, getD, List·getD-eq-default}
 use Rattle.wire.specs.declared.cursor.Cursor.{Cursor}
-use Rattle.wire.specs.Parse.{Parsed, ok, refused, many}
+use Rattle.wire.specs.Parse.{Parsed, ok, refused, then, many}
 use Rattle.wire.specs.Cursor.{le32, u32, takeAt, unexpectedEof}
 use Rattle.wire.proofs.Found.{u32-got, u32-short, u32-is, take-is, take-short}
+use Rattle.wire.proofs.Many.{went}
 use Rattle.wire.proofs.Apart.{cursor}
 use Rattle.table.specs.declared.entry.Counted.{Counted}
 use Rattle.table.specs.Image.{counted}
@@ -36,6 +37,23 @@ words-short (suc n) i s at p h = go (decLe (at + 4) (length s)) (words-short n (
     go : Dec (at + 4 ≤ length s) → (at + 4 ≤ length s → length s < at + 4 + 4 * n → many (λ i. u32) (i + 1) n s (at + 4) ≡ refused unexpectedEof) → many (λ i. u32) i (suc n) s at ≡ refused unexpectedEof
     go (yes q) ih = let g = ih q (omega arith) in rw (u32-got s at q, g) refl
     go (no q) ih = rw (u32-short s at (omega arith)) refl
+
+-- numbers that were read are those that stand there
+pub words-are : (n i : ℕ) (s : List ℕ) (at e : ℕ) (l : List ℕ) → many (λ i. u32) i n s at ≡ ok l e → wordList s at (length l) ≡ l
+unfolding many wordList
+words-are zero i s at e l h = let q : l ≡ [] = cc in rw q refl
+words-are (suc n) i s at e l h =
+    went (u32 s at) (λ a next. then (many (λ i. u32) (i + 1) n s next) (λ l e. ok (a ∷ l) e)) l e h λ a m g h₁.
+    went (many (λ i. u32) (i + 1) n s m) (λ l e. ok (a ∷ l) e) l e h₁ λ k x g₂ h₂.
+    let q : l ≡ a ∷ k = cc in
+    let w = u32-is s at a m g in
+    rw (q, ← w .value, ← w .end, words-are n (i + 1) s m x k g₂) refl
+
+pub counted-are : (s : List ℕ) (at e : ℕ) (l : List ℕ) → counted s at ≡ ok l e → wordList s (at + 4) (length l) ≡ l
+unfolding counted
+counted-are s at e l h =
+    went (u32 s at) (λ n next. many (λ i. u32) 0 n s next) l e h λ n m g h₁.
+    rw (← u32-is s at n m g .end) (words-are n 0 s m e l h₁)
 
 -- a count and its numbers, by what the code found
 pub counted-none : (s : List ℕ) (at : ℕ) → u32 s at ≡ refused unexpectedEof → counted s at ≡ refused unexpectedEof

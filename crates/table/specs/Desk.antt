@@ -2,6 +2,8 @@
 use Prim.Native.Nat.{ℕ, max}
 use mathlib.Core.List.{List, [], _∷_}
 use mathlib.Core.Option.{Option, some, none}
+use lib.IntN.{pos}
+use lib.Ieee.{binary32, ofInt, toBits}
 use Rattle.wire.specs.Parse.{Refusal, Parsed, ok, refused, pick}
 use Rattle.table.specs.declared.desk.Kind.{Kind}
 use Rattle.table.specs.declared.desk.Desk.{Desk}
@@ -31,11 +33,14 @@ firstValue key d [] = d
 firstValue key d (e ∷ es) = orElse (metadataValue key (e .metadata)) d
 
 -- the span: the first entry's, or 80 and 12,000, as 32-bit patterns
+unfoldable pub bitsOf : ℕ → ℕ
+bitsOf n = toBits binary32 (ofInt binary32 (pos n))
+
 abbrev pub spanMin : List PitchEntry → ℕ
-spanMin es = firstValue minKey 0x42A00000 es
+spanMin es = firstValue minKey (bitsOf 80) es
 
 abbrev pub spanMax : List PitchEntry → ℕ
-spanMax es = firstValue maxKey 0x463B8000 es
+spanMax es = firstValue maxKey (bitsOf 12000) es
 
 abbrev pub deskOf : Kind → List PitchEntry → Desk
 deskOf k es = record { bands = bandCount k es; «min_hz» = spanMin es; «max_hz» = spanMax es }

@@ -2,13 +2,14 @@ pub mod Table
 pub mod Size
 pub mod Image
 pub mod Span
-pub mod Baseline
 pub mod Decode
 pub mod View
 pub mod Lookup
 pub mod Start
+pub mod Name
 pub mod Answer
 pub mod Desk
 pub mod Encode
 pub mod Rewrite
 pub mod Views
+pub mod inner

@@ -1,15 +1,18 @@
 // Parts of a byte slice, and numbers in it, for any position.
 ghost use mathlib.Core.Path.{_≡_};
 ghost use Prim.Native.Nat.{_+_, _<_, _^_};
-ghost use lib.ListN.{take, drop, getD};
+ghost use lib.ListN.{length, take, drop, getD};
 ghost use Rattle.wire.specs.Cursor.{le32};
 ghost use Rattle.table.specs.Table.{same};
+ghost use Rattle.table.specs.Name.{StartsAt};
+ghost use Rattle.table.specs.inner.Header.{partStart};
 
-// The part of n bytes from a position on, as far as it is there.
+// The part of n bytes from a position on, as far as it is there; past the end, the empty part at the start.
 pub fn part_of(s: &[u8], at: usize, n: usize) -> &[u8]
-    ensures { λ r. ⌜ now r ≡ take n (drop at (now (s .entry))) ⌝ }
+    ensures bytes { λ r. ⌜ now r ≡ take n (drop at (now (s .entry))) ⌝ }
+    ensures placed { λ r. ⌜ StartsAt (s .entry) (partStart (length (now (s .entry))) at) r ⌝ }
 {
-    if s.len() <= at {
+    if s.len() < at {
         return &s[..0];
     }
     if n <= s.len() - at {

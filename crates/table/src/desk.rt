@@ -6,16 +6,14 @@ ghost use Rattle.table.specs.Decode.{decode};
 ghost use Rattle.table.specs.View.{entryAt, entryList};
 ghost use Rattle.table.specs.Answer.{foundBits};
 ghost use Rattle.table.specs.Desk.{bandsOf, bandCount, orElse, firstValue, deskOf, deskOutcome, deskAnswer};
+use crate::accepted::table_header;
 use crate::entry::EntryRead;
 use crate::entry::EntryView;
 use crate::entry::entry_at;
 use crate::entry::metadata_value;
 use crate::error::CoeffTableCodecError;
 use crate::header::HeaderRead;
-use crate::header::header_at;
 use crate::metadata::Found;
-use crate::read::Reading;
-use crate::read::from_bytes;
 use wire::cursor::Cursor;
 
 // A voice's kind: one channel of the table, or the blend of its channels.
@@ -115,13 +113,10 @@ fn desk_at(s: &[u8], c: Cursor, n: usize, kind: Kind) -> Desk
 pub fn for_voice(image: &[u8], kind: Kind) -> DeskRead
     ensures { λ r. ⌜ deskAnswer r ≡ deskOutcome kind (decode (now (image .entry))) ⌝ }
 {
-    match from_bytes(image) {
-        Reading::Refused(e) => DeskRead::Refused(e),
-        Reading::Accepted(_, _) => match header_at(image) {
-            HeaderRead::Refused(e) => DeskRead::Refused(e),
-            HeaderRead::Header(h) => {
-                DeskRead::Desk(desk_at(image, Cursor { at: h.end }, h.count as usize, kind))
-            }
-        },
+    match table_header(image) {
+        HeaderRead::Refused(e) => DeskRead::Refused(e),
+        HeaderRead::Header(h) => {
+            DeskRead::Desk(desk_at(image, Cursor { at: h.end }, h.count as usize, kind))
+        }
     }
 }

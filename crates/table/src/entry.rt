@@ -8,6 +8,7 @@ ghost use Rattle.table.specs.Table.{hasChannel, coefficientAt, metadataV
 ghost use Rattle.table.specs.Image.{counted, entry};
 ghost use Rattle.table.specs.View.{entryAt, PlacedRead};
 ghost use Rattle.table.specs.Answer.{foundBits, entryParsed, countedParsed, placedCount};
+ghost use Rattle.table.specs.inner.Entry.{numbers, metadata, numbersParsed, NumbersPlaced, pairsParsed, PairsPlaced};
 use crate::bytes::word_or;
 use crate::error::CoeffTableCodecError;
 use crate::metadata::Found;
@@ -60,6 +61,49 @@ fn counted_at(s: &[u8], c: Cursor) -> Counted
     }
 }
 
+// Two numbers, a count, where the numbers that it counts start, and the cursor past them.
+pub enum NumbersRead {
+    Numbers(u32, u32, u32, usize, Cursor),
+    UnexpectedEof,
+}
+
+// Two numbers, then a count and as many numbers: an entry starts with this twice.
+fn numbers_at(s: &[u8], c: Cursor) -> NumbersRead
+    ensures means { λ r. ⌜ numbersParsed (now (s .entry)) r ≡ numbers (now (s .entry)) (c .at) ⌝ }
+    ensures placed { λ r. ⌜ NumbersPlaced (c .at) r ⌝ }
+{
+    let U32Read::Value(a, c1) = c.u32(s) else {
+        return NumbersRead::UnexpectedEof;
+    };
+    let U32Read::Value(b, c2) = c1.u32(s) else {
+        return NumbersRead::UnexpectedEof;
+    };
+    match counted_at(s, c2) {
+        Counted::Words(n, at, c3) => NumbersRead::Numbers(a, b, n, at, c3),
+        Counted::UnexpectedEof => NumbersRead::UnexpectedEof,
+    }
+}
+
+// A count, where its pairs start, and the cursor past them.
+pub enum PairsRead {
+    Pairs(u32, usize, Cursor),
+    Refused(CoeffTableCodecError),
+}
+
+// A count and as many pairs.
+fn pairs_at(s: &[u8], c: Cursor) -> PairsRead
+    ensures means { λ r. ⌜ pairsParsed (now (s .entry)) r ≡ metadata (now (s .entry)) (c .at) ⌝ }
+    ensures placed { λ r. ⌜ PairsPlaced (now (s .entry)) (c .at) r ⌝ }
+{
+    let U32Read::Value(q, start) = c.u32(s) else {
+        return PairsRead::Refused(CoeffTableCodecError::UnexpectedEof);
+    };
+    match skip_pairs(s, start, q) {
+        Skipped::To(end) => PairsRead::Pairs(q, start.at, end),
+        Skipped::Refused(e) => PairsRead::Refused(e),
+    }
+}
+
 // Whether k rows of w columns are n coefficients, in whole numbers: the product is taken only where it fits.
 fn is_well_formed(k: u32, w: u64, n: u32) -> bool
     ensures { λ r. ⌜ r ≡ eqb (k * w) n ⌝ }
@@ -78,30 +122,15 @@ pub fn entry_at(s: &[u8], c: Cursor, index: usize) -> EntryRead
     ensures means { λ r. ⌜ entryParsed (now (s .entry)) r ≡ entry index (now (s .entry)) (c .at) ⌝ }
     ensures placed { λ r. ⌜ PlacedRead (now (s .entry)) (c .at) r ⌝ }
 {
-    let U32Read::Value(f0_hz, c1) = c.u32(s) else {
+    let NumbersRead::Numbers(f0_hz, stretch, m, ms, c1) = numbers_at(s, c) else {
         return EntryRead::Refused(CoeffTableCodecError::UnexpectedEof);
     };
-    let U32Read::Value(stretch, c2) = c1.u32(s) else {
+    let NumbersRead::Numbers(k, j, n, ns, c2) = numbers_at(s, c1) else {
         return EntryRead::Refused(CoeffTableCodecError::UnexpectedEof);
     };
-    let Counted::Words(m, ms, c3) = counted_at(s, c2) else {
-        return EntryRead::Refused(CoeffTableCodecError::UnexpectedEof);
-    };
-    let U32Read::Value(k, c4) = c3.u32(s) else {
-        return EntryRead::Refused(CoeffTableCodecError::UnexpectedEof);
-    };
-    let U32Read::Value(j, c5) = c4.u32(s) else {
-        return EntryRead::Refused(CoeffTableCodecError::UnexpectedEof);
-    };
-    let Counted::Words(n, ns, c6) = counted_at(s, c5) else {
-        return EntryRead::Refused(CoeffTableCodecError::UnexpectedEof);
-    };
-    let U32Read::Value(q, c7) = c6.u32(s) else {
-        return EntryRead::Refused(CoeffTableCodecError::UnexpectedEof);
-    };
-    match skip_pairs(s, c7, q) {
-        Skipped::Refused(e) => EntryRead::Refused(e),
-        Skipped::To(c8) => {
+    match pairs_at(s, c2) {
+        PairsRead::Refused(e) => EntryRead::Refused(e),
+        PairsRead::Pairs(q, qs, end) => {
             if is_well_formed(k, (m as u64) + (j as u64), n) {
                 EntryRead::Entry(EntryView {
                     f0_hz,
@@ -113,8 +142,8 @@ pub fn entry_at(s: &[u8], c: Cursor, index: usize) -> EntryRead
                     pairs: q,
                     partials_at: ms,
                     coefficients_at: ns,
-                    pairs_at: c7.at,
-                    end: c8.at,
+                    pairs_at: qs,
+                    end: end.at,
                 })
             } else {
                 EntryRead::Refused(CoeffTableCodecError::MalformedEntry(index))

@@ -1,4 +1,5 @@
 // Coefficient tables: the image that a planner's tool writes, read with questions 1 to 7, looked into, and rewritten.
+mod accepted;
 mod bytes;
 pub mod desk;
 pub mod entry;

@@ -3,13 +3,11 @@ ghost use mathlib.Core.Path.{_≡_};
 ghost use Rattle.table.specs.Decode.{decode};
 ghost use Rattle.table.specs.View.{entryList};
 ghost use Rattle.table.specs.Lookup.{viewFrom, viewOfIndex, foundView};
+use crate::accepted::table_header;
 use crate::entry::EntryRead;
 use crate::entry::EntryView;
 use crate::entry::entry_at;
 use crate::header::HeaderRead;
-use crate::header::header_at;
-use crate::read::Reading;
-use crate::read::from_bytes;
 use wire::cursor::Cursor;
 
 pub enum EntryFound {
@@ -45,16 +43,8 @@ fn entry_among(s: &[u8], c: Cursor, n: usize, index: usize) -> EntryFound
 pub fn entry(image: &[u8], index: usize) -> EntryFound
     ensures { λ r. ⌜ foundView r ≡ viewOfIndex (decode (now (image .entry))) index ⌝ }
 {
-    match from_bytes(image) {
-        Reading::Refused(_) => EntryFound::Nothing,
-        Reading::Accepted(_, _) => match header_at(image) {
-            HeaderRead::Refused(_) => EntryFound::Nothing,
-            HeaderRead::Header(h) => entry_among(
-                image,
-                Cursor { at: h.end },
-                h.count as usize,
-                index,
-            ),
-        },
+    match table_header(image) {
+        HeaderRead::Refused(_) => EntryFound::Nothing,
+        HeaderRead::Header(h) => entry_among(image, Cursor { at: h.end }, h.count as usize, index),
     }
 }

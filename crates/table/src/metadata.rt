@@ -37,8 +37,8 @@ pub fn pair_at(s: &[u8], c: Cursor) -> PairRead
             U32Read::Value(v, next) => PairRead::Pair(a, n, v, next),
             U32Read::UnexpectedEof => PairRead::Refused(CoeffTableCodecError::UnexpectedEof),
         },
-        StringRead::UnexpectedEof => PairRead::Refused(CoeffTableCodecError::UnexpectedEof),
-        StringRead::BadUtf8 => PairRead::Refused(CoeffTableCodecError::BadUtf8),
+        StringRead::UnexpectedEof(_) => PairRead::Refused(CoeffTableCodecError::UnexpectedEof),
+        StringRead::BadUtf8(_) => PairRead::Refused(CoeffTableCodecError::BadUtf8),
     }
 }
 

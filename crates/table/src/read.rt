@@ -3,9 +3,11 @@ ghost use mathlib.Core.Path.{_≡_};
 ghost use Rattle.table.specs.declared.span.Baseline.{Baseline};
 ghost use Rattle.table.specs.Image.{entries};
 ghost use Rattle.table.specs.Decode.{decode, nameOf};
+ghost use Rattle.table.specs.Name.{StartsAt, nameStart};
 ghost use Rattle.table.specs.Answer.{readingParsed, counts};
-ghost use Rattle.table.specs.Baseline.{verdictFrom, concluded, outcome};
+ghost use Rattle.table.specs.inner.Baseline.{verdictFrom, concluded, outcome};
 ghost use mathlib.Core.List.{[]};
+use crate::accepted::table_header;
 use crate::bytes::part_of;
 use crate::entry::EntryRead;
 use crate::entry::entry_at;
@@ -72,15 +74,23 @@ pub fn from_bytes(image: &[u8]) -> Reading
     }
 }
 
-// The table's name, as the part of the image that holds it; the empty part where the image is refused.
-pub fn name(image: &[u8]) -> &[u8]
-    ensures { λ r. ⌜ now r ≡ nameOf (decode (now (image .entry))) ⌝ }
+// Where the table's name starts in the image; 0 where the image is refused.
+pub fn name_at(image: &[u8]) -> usize
+    ensures { λ r. ⌜ r ≡ nameStart (decode (now (image .entry))) ⌝ }
 {
-    match from_bytes(image) {
-        Reading::Refused(_) => &image[..0],
-        Reading::Accepted(_, _) => match header_at(image) {
-            HeaderRead::Refused(_) => &image[..0],
-            HeaderRead::Header(h) => part_of(image, h.name_at, h.name),
-        },
+    match table_header(image) {
+        HeaderRead::Refused(_) => 0,
+        HeaderRead::Header(h) => h.name_at,
+    }
+}
+
+// The table's name, as the part of the image that holds it; the empty part at its start where the image is refused.
+pub fn name(image: &[u8]) -> &[u8]
+    ensures bytes { λ r. ⌜ now r ≡ nameOf (decode (now (image .entry))) ⌝ }
+    ensures placed { λ r. ⌜ StartsAt (image .entry) (nameStart (decode (now (image .entry)))) r ⌝ }
+{
+    match table_header(image) {
+        HeaderRead::Refused(_) => &image[..0],
+        HeaderRead::Header(h) => part_of(image, h.name_at, h.name),
     }
 }

@@ -1,7 +1,7 @@
 // Question 7: the noise-band span of each entry, and whether all agree with the first's.
 ghost use mathlib.Core.Path.{_≡_};
 ghost use Rattle.table.specs.Span.{spanFrom, spanOf, floatEq};
-ghost use Rattle.table.specs.Baseline.{judged};
+ghost use Rattle.table.specs.inner.Baseline.{judged};
 ghost use mathlib.Core.Bool.{_&&_};
 ghost use Rattle.table.specs.View.{entryAt};
 ghost use Rattle.table.specs.Answer.{foundBits};

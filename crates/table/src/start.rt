@@ -2,10 +2,8 @@
 ghost use mathlib.Core.Path.{_≡_};
 ghost use Rattle.table.specs.Decode.{decode};
 ghost use Rattle.table.specs.Start.{startOf};
+use crate::accepted::table_header;
 use crate::header::HeaderRead;
-use crate::header::header_at;
-use crate::read::Reading;
-use crate::read::from_bytes;
 
 // The entry count and the first entry's position; 0 and 0 where the image is refused.
 pub struct Start {
@@ -16,17 +14,14 @@ pub struct Start {
 pub fn entries_start(image: &[u8]) -> Start
     ensures { λ r. ⌜ r ≡ startOf (decode (now (image .entry))) ⌝ }
 {
-    match from_bytes(image) {
-        Reading::Refused(_) => Start { count: 0, at: 0 },
-        Reading::Accepted(_, _) => match header_at(image) {
-            HeaderRead::Refused(_) => Start { count: 0, at: 0 },
-            HeaderRead::Header(h) => {
-                let n = h.count;
-                Start {
-                    count: n as usize,
-                    at: h.end,
-                }
+    match table_header(image) {
+        HeaderRead::Refused(_) => Start { count: 0, at: 0 },
+        HeaderRead::Header(h) => {
+            let n = h.count;
+            Start {
+                count: n as usize,
+                at: h.end,
             }
-        },
+        }
     }
 }

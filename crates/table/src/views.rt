@@ -1,13 +1,13 @@
-// Reading an image and keeping its entries' views: read once, then looked into. For tables of at most 16 entries.
+// Reading an image and keeping its first 16 entries' views: read once, then looked into.
 ghost use mathlib.Core.Path.{_≡_};
-ghost use Prim.Native.Nat.{_≤_};
-ghost use lib.ListN.{length};
+ghost use lib.ListN.{replicate};
 ghost use Rattle.table.specs.declared.span.Baseline.{Baseline};
 ghost use Rattle.table.specs.Image.{entries};
 ghost use Rattle.table.specs.View.{entryList};
-ghost use Rattle.table.specs.Views.{viewed, noView, ViewsRead};
+ghost use Rattle.table.specs.Views.{noView, ViewsRead};
+ghost use Rattle.table.specs.inner.KeptViews.{keptViews};
 ghost use Rattle.table.specs.Answer.{refusalOf, readingParsed};
-ghost use Rattle.table.specs.Baseline.{outcome};
+ghost use Rattle.table.specs.inner.Baseline.{outcome};
 ghost use Rattle.wire.specs.Parse.{refused};
 use crate::entry::EntryRead;
 use crate::entry::EntryView;
@@ -22,7 +22,7 @@ use crate::span::judge;
 use crate::span::span_of;
 use wire::cursor::Cursor;
 
-// The answer of `from_bytes`, and of an accepted table of at most 16 entries a view of each.
+// The answer of `from_bytes`, and a view of each of the first 16 entries; past the last, and where the image is refused, of nothing.
 pub struct Views {
     pub reading: Reading,
     pub views: [EntryView; 16],
@@ -48,7 +48,7 @@ pub fn no_view() -> EntryView
 }
 
 fn no_views(e: CoeffTableCodecError) -> Views
-    ensures { λ r. ⌜ readingParsed (r .reading) ≡ refused (refusalOf e) ⌝ }
+    ensures { λ r. ⌜ (readingParsed (r .reading) ≡ refused (refusalOf e)) × (r .views ≡ replicate 16 noView) ⌝ }
 {
     let blank = no_view();
     Views {
@@ -57,11 +57,10 @@ fn no_views(e: CoeffTableCodecError) -> Views
     }
 }
 
-// The n entries at a cursor, and question 7 of all, as `entries_at` reads them. Past 16 entries the views are of no use.
+// The n entries at a cursor, and question 7 of all, as `entries_at` reads them; the views of the first 16 are kept.
 fn views_at(s: &[u8], c: Cursor, n: usize) -> Views
     ensures reading { λ r. ⌜ readingParsed (r .reading) ≡ outcome Baseline.Start 0 (entries n (now (s .entry)) (c .at)) ⌝ }
-    ensures views { λ r. ⌜ (n ≤ 16 → length (entryList n (now (s .entry)) (c .at)) ≡ n
-        → viewed (now (s .entry)) (r .views) n ≡ entryList n (now (s .entry)) (c .at)) ⌝ }
+    ensures views { λ r. ⌜ r .views ≡ keptViews (readingParsed (r .reading)) (c .at) (entryList n (now (s .entry)) (c .at)) ⌝ }
 {
     let blank = no_view();
     let mut views = [blank; 16];
@@ -72,8 +71,10 @@ fn views_at(s: &[u8], c: Cursor, n: usize) -> Views
         match entry_at(s, d, i) {
             EntryRead::Entry(v) => {
                 j = judge(j, i, span_of(s, v));
-                views[i % 16] = v;
                 d = Cursor { at: v.end };
+                if i < 16 {
+                    views[i] = v;
+                }
             }
             EntryRead::Refused(e) => {
                 return no_views(e);
@@ -82,7 +83,10 @@ fn views_at(s: &[u8], c: Cursor, n: usize) -> Views
         i += 1;
     }
     let reading = conclude(j, n, d.at);
-    Views { reading, views }
+    match reading {
+        Reading::Refused(e) => no_views(e),
+        Reading::Accepted(_, _) => Views { reading, views },
+    }
 }
 
 // Reads a whole image, with questions 1 to 7 as `from_bytes` asks them.

@@ -8,7 +8,7 @@ use Rattle.wire.specs.declared.cursor.U16Read.{U16Read}
 use Rattle.wire.specs.declared.cursor.U32Read.{U32Read}
 use Rattle.wire.specs.declared.cursor.StringRead.{StringRead}
 use Rattle.wire.specs.Parse.{Parsed, ok, refused}
-use Rattle.wire.specs.Cursor.{Place, place, takenParsed, u16Parsed, u32Parsed, stringParsed}
+use Rattle.wire.specs.Cursor.{Place, place, takenParsed, u16Parsed, u32Parsed, stringParsed, reached}
 
 abbrev pub cursor : ℕ → Cursor
 cursor n = record { at = n }
@@ -48,19 +48,18 @@ u32-apart (U32Read.Value x c) U32Read.UnexpectedEof e = cc
 u32-apart U32Read.UnexpectedEof (U32Read.Value y d) e = cc
 u32-apart U32Read.UnexpectedEof U32Read.UnexpectedEof e = refl
 
-pub string-apart : (a b : StringRead) → stringParsed a ≡ stringParsed b → a ≡ b
-string-apart (StringRead.Value x m c) (StringRead.Value y n d) e =
-    let q : c .at ≡ d .at = cc in
-    let p : c ≡ d = cursor-is c d q in
+pub string-apart : (a b : StringRead) → stringParsed a ≡ stringParsed b → reached a ≡ reached b → a ≡ b
+string-apart (StringRead.Value x m c) (StringRead.Value y n d) e f =
+    let p : c ≡ d = cursor-is c d f in
     let o : place x m ≡ place y n = cc in
     let u : x ≡ y = ap (λ (z : Place). z .start) o in
     let v : m ≡ n = ap (λ (z : Place). z .len) o in
     cc
-string-apart (StringRead.Value x m c) StringRead.UnexpectedEof e = cc
-string-apart (StringRead.Value x m c) StringRead.BadUtf8 e = cc
-string-apart StringRead.UnexpectedEof (StringRead.Value y n d) e = cc
-string-apart StringRead.UnexpectedEof StringRead.UnexpectedEof e = refl
-string-apart StringRead.UnexpectedEof StringRead.BadUtf8 e = let z : _≡_ {A = ℕ} 2 5 = ap number e in absurd (omega arith)
-string-apart StringRead.BadUtf8 (StringRead.Value y n d) e = cc
-string-apart StringRead.BadUtf8 StringRead.UnexpectedEof e = let z : _≡_ {A = ℕ} 5 2 = ap number e in absurd (omega arith)
-string-apart StringRead.BadUtf8 StringRead.BadUtf8 e = refl
+string-apart (StringRead.Value x m c) (StringRead.UnexpectedEof d) e f = cc
+string-apart (StringRead.Value x m c) (StringRead.BadUtf8 d) e f = cc
+string-apart (StringRead.UnexpectedEof c) (StringRead.Value y n d) e f = cc
+string-apart (StringRead.UnexpectedEof c) (StringRead.UnexpectedEof d) e f = ap StringRead.UnexpectedEof (cursor-is c d f)
+string-apart (StringRead.UnexpectedEof c) (StringRead.BadUtf8 d) e f = let z : _≡_ {A = ℕ} 2 5 = ap number e in absurd (omega arith)
+string-apart (StringRead.BadUtf8 c) (StringRead.Value y n d) e f = cc
+string-apart (StringRead.BadUtf8 c) (StringRead.UnexpectedEof d) e f = let z : _≡_ {A = ℕ} 5 2 = ap number e in absurd (omega arith)
+string-apart (StringRead.BadUtf8 c) (StringRead.BadUtf8 d) e f = ap StringRead.BadUtf8 (cursor-is c d f)

@@ -13,7 +13,7 @@ use borrow.Author.Tests.{le-leb, lt-leb, ne-eqb}
 use Rattle.wire.specs.declared.utf8.Rest.{Rest}
 use Rattle.wire.specs.Parse.{ok, refused, pick}
 use Rattle.wire.specs.Utf8.{Octets, Next, follow, bad, chars, lead, octet, onto, octets, utf8}
-use Rattle.wire.specs.Utf8State.{restOf, ranges, Upto}
+use Rattle.wire.specs.inner.Utf8State.{restOf, ranges, Upto}
 use Rattle.wire.specs.Cursor.{place, part, stringOf, badUtf8}
 
 -- whether n bytes are there, by the tests that the code makes

@@ -41,13 +41,14 @@ use denote.Triple.Statement.{Contract, Triple}
 use denote.Exit.{yes}
 use denote.Triple.Walked.{says, Stays, stay-ref, walkOf, goes-ref, Walks, ends-at, walked, walk-meets}
 use Rattle.wire.specs.declared.reader.Reader.{Reader}
-use Rattle.wire.specs.Parse.{Parsed, Parser}
-use Rattle.wire.specs.Reader.{after, movedTo, Reads}
+use Rattle.wire.specs.Reader.{movedTo}
 use Rattle.wire.proofs.Held.{valueOf, OfSlice, OfReader, slice-of, reader-of, both}
 use Rattle.wire.proofs.reader.Reader as T
 use Rattle.wire.proofs.reader.Reader.Laws as T′
 
-module _ (E : Enum) (laws : EL.Laws E) (few : Few (shape E)) (plain-fields : Plainss (variants E)) (B : Type 0) (parsed : E .D → Parsed B) (parse : Parser B) (#field #past : Name) where
+module _ (E : Enum) (laws : EL.Laws E) (few : Few (shape E)) (plain-fields : Plainss (variants E)) (past : E .D → ℕ → ℕ)
+    (Answers : E .D → List ℕ → ℕ → Type 0) (Says : E .D → Reader → Reader → Type 0)
+    (say : (r : E .D) (h : Reader) (n : ℕ) → Answers r (now (h .buf)) (h .pos) → n ≡ past r (h .pos) → Says r h (movedTo h n)) (#field #past : Name) where
   abbrev S : RattleType
   S = row E
 
@@ -75,13 +76,13 @@ module _ (E : Enum) (laws : EL.Laws E) (few : Few (shape E)) (plain-fields : Pla
 
   module _ {M : Type 1} (𝓤 : URA M) where
     abbrev fieldClauses : Clauses 𝓤 fieldEnded
-    fieldClauses κs a = record { ghost = Unit {0}; requires = λ g. emp 𝓤; ensures = λ g r e. fact 𝓤 (parsed r ≡ parse (now (a .0)) (a .1 .0)) }
+    fieldClauses κs a = record { ghost = Unit {0}; requires = λ g. emp 𝓤; ensures = λ g r e. fact 𝓤 (Answers r (now (a .0)) (a .1 .0)) }
 
     abbrev pastClauses : Clauses 𝓤 pastEnded
-    pastClauses κs a = record { ghost = Unit {0}; requires = λ g. emp 𝓤; ensures = λ g n e. fact 𝓤 (n ≡ after (parsed (a .0)) (a .1 .0)) }
+    pastClauses κs a = record { ghost = Unit {0}; requires = λ g. emp 𝓤; ensures = λ g n e. fact 𝓤 (n ≡ past (a .0) (a .1 .0)) }
 
     abbrev clauses : Clauses 𝓤 ended
-    clauses κs a = record { ghost = Unit {0}; requires = λ g. emp 𝓤; ensures = λ g r e. fact 𝓤 (Reads parse (parsed r) (now (a .0)) (now (e .0))) }
+    clauses κs a = record { ghost = Unit {0}; requires = λ g. emp 𝓤; ensures = λ g r e. fact 𝓤 (Says r (now (a .0)) (now (e .0))) }
 
   -- ---- the method's MIR
   abbrev answer : Ty
@@ -151,8 +152,9 @@ module _ (E : Enum) (laws : EL.Laws E) (few : Few (shape E)) (plain-fields : Pla
     abbrev token : Fml
     token = flft κ′ q′
 
-    abbrev found : Parsed B
-    found = parse (now (h .buf)) (h .pos)
+    -- what the field's answer is
+    abbrev Found : E .D → Type 0
+    Found r = Answers r (now (h .buf)) (h .pos)
 
     abbrev Post : Val → SProp 𝓤
     Post = walkOf 𝓤 H A ended stayed (clauses 𝓤) .post (((κ, (κ′, tt)), (q, (q′, tt)), bounds, a, vals), tt)
@@ -169,8 +171,8 @@ module _ (E : Enum) (laws : EL.Laws E) (few : Few (shape E)) (plain-fields : Pla
         nothing ! $ owned ! usize (Is usize) (uint-makes 𝓤 H A W w64) (h .pos) _ (refl, fits) $ fjoin ! $ move ! (1 ∷ 0 ∷ []) $ fjoin ! $
         move ! (2 ∷ 0 ∷ []) $ join ! $ nothing ! $ move ! (1 ∷ 0 ∷ []) $ join ! $ frame ! $ done !
 
-    tells : (r : E .D) → ent 𝓤 (ensured 𝓤 H A fieldEnded (fieldClauses 𝓤) (κ′, tt) (h .buf, (h .pos, tt)) tt r) (fact 𝓤 (parsed r ≡ found))
-    tells r = exE 𝓤 _ (λ ws. snd∗ 𝓤 (sem 𝓤 H A (lasts fieldEnded (κ′, tt) (h .buf, (h .pos, tt)) ws)) (fact 𝓤 (parsed r ≡ found)))
+    tells : (r : E .D) → ent 𝓤 (ensured 𝓤 H A fieldEnded (fieldClauses 𝓤) (κ′, tt) (h .buf, (h .pos, tt)) tt r) (fact 𝓤 (Found r))
+    tells r = exE 𝓤 _ (λ ws. snd∗ 𝓤 (sem 𝓤 H A (lasts fieldEnded (κ′, tt) (h .buf, (h .pos, tt)) ws)) (fact 𝓤 (Found r)))
 
     -- ---- the second call: the position after the answer r, whose machine value is u
     abbrev to-past : E .D → Val → Past 𝓤 H A .Ghost
@@ -181,16 +183,16 @@ module _ (E : Enum) (laws : EL.Laws E) (few : Few (shape E)) (plain-fields : Pla
         qed W [] ∵ nothing ! $ nothing ! $ owned ! usize (Is usize) (uint-makes 𝓤 H A W w64) (h .pos) _ (refl, fits) $ fjoin ! $
         owned ! S (Is S) (EL.makes E plain-fields 𝓤 H A) r (u ∷ []) is $ fjoin ! $ move ! (1 ∷ 0 ∷ []) $ join ! $ frame ! $ done !
 
-    places : (r : E .D) (n : ℕ) → ent 𝓤 (ensured 𝓤 H A pastEnded (pastClauses 𝓤) tt (r, (h .pos, tt)) tt n) (fact 𝓤 (n ≡ after (parsed r) (h .pos)))
-    places r n = exE 𝓤 _ (λ ws. snd∗ 𝓤 (sem 𝓤 H A (lasts pastEnded tt (r, (h .pos, tt)) ws)) (fact 𝓤 (n ≡ after (parsed r) (h .pos))))
+    places : (r : E .D) (n : ℕ) → ent 𝓤 (ensured 𝓤 H A pastEnded (pastClauses 𝓤) tt (r, (h .pos, tt)) tt n) (fact 𝓤 (n ≡ past r (h .pos)))
+    places r n = exE 𝓤 _ (λ ws. snd∗ 𝓤 (sem 𝓤 H A (lasts pastEnded tt (r, (h .pos, tt)) ws)) (fact 𝓤 (n ≡ past r (h .pos))))
 
     -- ---- the end
-    exits : (r : E .D) (u : Val) (n : ℕ) → Is S r (u ∷ []) → parsed r ≡ found → n ≡ after (parsed r) (h .pos)
+    exits : (r : E .D) (u : Val) (n : ℕ) → Is S r (u ∷ []) → Found r → n ≡ past r (h .pos)
         → ent 𝓤 (⋆ 𝓤 H A (‵ (fobs γ (R .coded .code (movedTo h n))) ∷ ‵ (fbor κ (Body (mem R) b o γ)) ∷ ‵ (flft κ q) ∷ (‵ token ⊛ ‵ ftrue) ∷ [])) (Post u)
     exits r u n is e p =
         qed W (‵ (fobs γ (R .coded .code (movedTo h n))) ∷ ‵ (fbor κ (Body (mem R) b o γ)) ∷ ‵ (flft κ q) ∷ (‵ token ⊛ ‵ ftrue) ∷ []) ∵
         suffices ! _ (ends-at 𝓤 H A ended stayed (clauses 𝓤) W (((κ, (κ′, tt)), (q, (q′, tt)), bounds, a, vals), tt) u r (movedTo h n, tt) (tt, tt)) $
-        says ! (e, ap (movedTo h) (p ∙ ap (λ (x : Parsed B). after x (h .pos)) e)) $
+        says ! (say r h n e p) $
         move ! (2 ∷ 3 ∷ []) $ join ! $ frame ! $ feqI ! (List Val) (vptr b o ∷ []) (vptr b o ∷ []) refl $ fjoin3 ! $ nothing ! $ move ! (1 ∷ 0 ∷ []) $ fjoin ! $
         owned ! S (Is S) (EL.makes E plain-fields 𝓤 H A) r (u ∷ []) is $ move ! (1 ∷ 0 ∷ []) $ done !
 
@@ -213,7 +215,7 @@ module _ (E : Enum) (laws : EL.Laws E) (few : Few (shape E)) (plain-fields : Pla
           move ! (5 ∷ 0 ∷ []) $ use2 W (raw (Field 𝓤 H A .pre to-field) ⊛ ‵ (OfSlice α (h .buf))) (lends (fits-in g)) $ split ! $
           calls-at ! fm (Field 𝓤 H A) known-field to-field (and-then ! (load ! (from ! (stop !)) (look ! 11 refl)) (and-then ! (load ! (from ! (stop !)) (look ! 9 refl)) (no-more !))) (λ u.
           use1 W (later (some (λ (r : E .D). ((‵ token ⊛ ‵ ftrue) ⊛ ‵ (S .own r (u ∷ []))) ⊛ raw (ensured 𝓤 H A fieldEnded (fieldClauses 𝓤) (κ′, tt) (h .buf, (h .pos, tt)) tt r)))) (id⊢ 𝓤 _) $ await ! tt $ pick ! (λ r.
-          split ! $ move ! (1 ∷ []) $ use1 W (raw (fact 𝓤 (parsed r ≡ found))) (tells r) $ heard ! (parsed r ≡ found) (λ e. split ! $ move ! (1 ∷ []) $
+          split ! $ move ! (1 ∷ []) $ use1 W (raw (fact 𝓤 (Found r))) (tells r) $ heard ! (Found r) (λ e. split ! $ move ! (1 ∷ []) $
           peeks ! S (Is S) (shows 𝓤 H A S) r (u ∷ []) (λ is.
           land ! (from ! (stop !)) (init ! 14 refl (EL.lawful E laws 𝓤 H A W few .typed r _ is .0)) $ drop ! $
           -- [the token; what its slice owns; its cell; the open borrow; obs; auth; nothing; _5; …; _4; …; _3; …; _2; …; _1; …; _0; …]
@@ -221,7 +223,7 @@ module _ (E : Enum) (laws : EL.Laws E) (few : Few (shape E)) (plain-fields : Pla
           use0 W (raw (Past 𝓤 H A .pre (to-past r u))) (hands r u is (fits-in g)) $
           calls-at ! fm (Past 𝓤 H A) known-past (to-past r u) (and-then ! (load ! (from ! (stop !)) (look ! 14 refl)) (and-then ! (load ! (from ! (stop !)) (look ! 8 refl)) (no-more !))) (λ w.
           use1 W (later (some (λ (n : ℕ). (‵ ftrue ⊛ ‵ (usize .own n (w ∷ []))) ⊛ raw (ensured 𝓤 H A pastEnded (pastClauses 𝓤) tt (r, (h .pos, tt)) tt n)))) (id⊢ 𝓤 _) $ await ! tt $ pick ! (λ n.
-          split ! $ move ! (1 ∷ []) $ use1 W (raw (fact 𝓤 (n ≡ after (parsed r) (h .pos)))) (places r n) $ heard ! (n ≡ after (parsed r) (h .pos)) (λ p. split ! $ move ! (1 ∷ []) $
+          split ! $ move ! (1 ∷ []) $ use1 W (raw (fact 𝓤 (n ≡ past r (h .pos)))) (places r n) $ heard ! (n ≡ past r (h .pos)) (λ p. split ! $ move ! (1 ∷ []) $
           peeks ! usize (Is usize) (shows 𝓤 H A usize) n (w ∷ []) (λ at-n.
           land ! (from ! (stop !)) (store ! 11 refl (uint-lawful 𝓤 H A W w64 .typed n _ at-n .0)) $ rewrite ! 11 (λ (x : Val). ‵ (fat fullShare (tyInt w64) l₄ 0 x)) (ap only (at-n .0)) refl $ drop ! $ drop ! $
           assigns ! (of-opd ! (load ! (from ! (stop !)) (look ! 9 refl))) (from ! (hop ! (look ! 15 refl) (fld ! refl (stop !)))) (store-in ! 2 (sub ! 1 refl (whole !)) (tt, record { fits = at-n .1 })) $

@@ -59,6 +59,19 @@ string = do
   n ← u32
   stringOf n
 
+-- the position after an answer at a position: past what was read; a field that is refused leaves it
+abbrev pub after : {A : Type 0} → Parsed A → ℕ → ℕ
+after (ok a next) at = next
+after (refused r) at = at
+
+-- the position after a string, read or refused: its length and its bytes are two fields, and each that is there is passed
+abbrev pub pastLength : Parsed ℕ → List ℕ → ℕ → ℕ
+pastLength (ok n next) s at = after (takeAt n s next) next
+pastLength (refused r) s at = at
+
+unfoldable pub stringEnd : List ℕ → ℕ → ℕ
+stringEnd s at = pastLength (u32 s at) s at
+
 -- ---- the answers of the code
 abbrev pub takenParsed : Taken → Parsed ℕ
 takenParsed (Taken.Part at c) = ok at (c .at)
@@ -74,5 +87,11 @@ u32Parsed U32Read.UnexpectedEof = refused unexpectedEof
 
 abbrev pub stringParsed : StringRead → Parsed Place
 stringParsed (StringRead.Value at n c) = ok (place at n) (c .at)
-stringParsed StringRead.UnexpectedEof = refused unexpectedEof
-stringParsed StringRead.BadUtf8 = refused badUtf8
+stringParsed (StringRead.UnexpectedEof c) = refused unexpectedEof
+stringParsed (StringRead.BadUtf8 c) = refused badUtf8
+
+-- the position that the reading of a string came to
+abbrev pub reached : StringRead → ℕ
+reached (StringRead.Value at n c) = c .at
+reached (StringRead.UnexpectedEof c) = c .at
+reached (StringRead.BadUtf8 c) = c .at

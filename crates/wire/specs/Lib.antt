@@ -1,5 +1,5 @@
 pub mod Parse
 pub mod Utf8
-pub mod Utf8State
 pub mod Cursor
 pub mod Reader
+pub mod inner

@@ -2,7 +2,8 @@
 ghost use mathlib.Core.Path.{_≡_};
 ghost use Prim.Native.Nat.{_+_, _<_, _≤_};
 ghost use lib.ListN.{length};
-ghost use Rattle.wire.specs.Cursor.{le16, le32, takeAt, u16, u32, stringOf, string, takenParsed, u16Parsed, u32Parsed, stringParsed};
+ghost use Rattle.wire.specs.Cursor.{le16, le32, takeAt, u16, u32, stringOf, string, after, stringEnd};
+ghost use Rattle.wire.specs.Cursor.{takenParsed, u16Parsed, u32Parsed, stringParsed, reached};
 use crate::utf8::from_utf8;
 
 pub struct Cursor {
@@ -25,11 +26,12 @@ pub enum U32Read {
     UnexpectedEof,
 }
 
-// A string: where its bytes start, how many they are, and the cursor past them.
+// A string: where its bytes start, how many they are, and the cursor past them. A refusal has the cursor past what was there: the length,
+// and the bytes that are not UTF-8.
 pub enum StringRead {
     Value(usize, usize, Cursor),
-    UnexpectedEof,
-    BadUtf8,
+    UnexpectedEof(Cursor),
+    BadUtf8(Cursor),
 }
 
 fn wide16(b: u8) -> u16
@@ -107,30 +109,32 @@ impl Cursor {
 
     // A string: its length in bytes as a u32, then that many bytes of UTF-8.
     pub fn string(self, s: &[u8]) -> StringRead
-        ensures { λ r. ⌜ stringParsed r ≡ string (now (s .entry)) (self .at) ⌝ }
+        ensures means { λ r. ⌜ stringParsed r ≡ string (now (s .entry)) (self .at) ⌝ }
+        ensures ends { λ r. ⌜ reached r ≡ stringEnd (now (s .entry)) (self .at) ⌝ }
     {
         match self.u32(s) {
             U32Read::Value(n, c) => string_of(s, c.at, n as usize),
-            U32Read::UnexpectedEof => StringRead::UnexpectedEof,
+            U32Read::UnexpectedEof => StringRead::UnexpectedEof(self),
         }
     }
 }
 
 // A string of n bytes at a position.
 fn string_of(s: &[u8], at: usize, n: usize) -> StringRead
-    ensures { λ r. ⌜ stringParsed r ≡ stringOf n (now (s .entry)) at ⌝ }
+    ensures means { λ r. ⌜ stringParsed r ≡ stringOf n (now (s .entry)) at ⌝ }
+    ensures ends { λ r. ⌜ reached r ≡ after (takeAt n (now (s .entry)) at) at ⌝ }
 {
     if s.len() < at {
-        return StringRead::UnexpectedEof;
+        return StringRead::UnexpectedEof(Cursor { at });
     }
     if n <= s.len() - at {
         let e = at + n;
         if from_utf8(&s[at..e]) {
             StringRead::Value(at, n, Cursor { at: e })
         } else {
-            StringRead::BadUtf8
+            StringRead::BadUtf8(Cursor { at: e })
         }
     } else {
-        StringRead::UnexpectedEof
+        StringRead::UnexpectedEof(Cursor { at })
     }
 }

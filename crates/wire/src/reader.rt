@@ -1,8 +1,10 @@
 // A reader that holds the image and its position, over the cursor: each method answers what the cursor answers there,
-// and moves past what was read; a refusal leaves it where it was.
+// and moves past what was read. A refusal leaves it where it was, but for a string: its length is passed where it is there, and so are
+// bytes that are not UTF-8.
 ghost use mathlib.Core.Path.{_≡_};
-ghost use Rattle.wire.specs.Cursor.{takeAt, u16, u32, string, takenParsed, u16Parsed, u32Parsed, stringParsed};
-ghost use Rattle.wire.specs.Reader.{after, Reads};
+ghost use Rattle.wire.specs.Cursor.{takeAt, u16, u32, string, after, stringEnd, takenParsed, u16Parsed, u32Parsed};
+ghost use Rattle.wire.specs.Cursor.{stringParsed, reached};
+ghost use Rattle.wire.specs.Reader.{Reads, ReadsString};
 use crate::cursor::Cursor;
 use crate::cursor::StringRead;
 use crate::cursor::Taken;
@@ -61,18 +63,18 @@ fn past_u32(r: U32Read, pos: usize) -> usize
 }
 
 fn string_at(buf: &[u8], pos: usize) -> StringRead
-    ensures { λ r. ⌜ stringParsed r ≡ string (now (buf .entry)) pos ⌝ }
+    ensures { λ r. ⌜ (stringParsed r ≡ string (now (buf .entry)) pos) × (reached r ≡ stringEnd (now (buf .entry)) pos) ⌝ }
 {
     Cursor { at: pos }.string(buf)
 }
 
-fn past_string(r: StringRead, pos: usize) -> usize
-    ensures { λ n. ⌜ n ≡ after (stringParsed r) pos ⌝ }
+fn past_string(r: StringRead, _pos: usize) -> usize
+    ensures { λ n. ⌜ n ≡ reached r ⌝ }
 {
     match r {
         StringRead::Value(_, _, c) => c.at,
-        StringRead::UnexpectedEof => pos,
-        StringRead::BadUtf8 => pos,
+        StringRead::UnexpectedEof(c) => c.at,
+        StringRead::BadUtf8(c) => c.at,
     }
 }
 
@@ -113,7 +115,7 @@ impl<'a> Reader<'a> {
 
     // The next string: where its bytes start, and how many they are.
     pub fn string<'s>(&'s mut self) -> StringRead
-        ensures { λ r. ⌜ Reads string (stringParsed r) (now (self .entry)) (now (self .exit)) ⌝ }
+        ensures { λ r. ⌜ ReadsString r (now (self .entry)) (now (self .exit)) ⌝ }
     {
         let r = string_at(self.buf, self.pos);
         self.pos = past_string(r, self.pos);
@@ -121,10 +123,12 @@ impl<'a> Reader<'a> {
     }
 }
 
-// The string at the start of an image, read by a reader: its parameter is a plain slice, so whoever calls it needs no proof by hand.
-pub fn first_string(buf: &[u8]) -> StringRead
-    ensures { λ r. ⌜ stringParsed r ≡ string (now (buf .entry)) 0 ⌝ }
+// The string at a position of an image, read by a reader: its parameters are a plain slice and a number, so whoever calls it needs no
+// proof by hand.
+pub fn string_from(image: &[u8], at: usize) -> StringRead
+    ensures { λ r. ⌜ (stringParsed r ≡ string (now (image .entry)) at) × (reached r ≡ stringEnd (now (image .entry)) at) ⌝ }
 {
-    let mut r = Reader::new(buf);
+    let mut r = Reader::new(image);
+    r.pos = at;
     r.string()
 }

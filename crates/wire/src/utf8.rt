@@ -4,7 +4,7 @@ ghost use Prim.Native.Nat.{_+_, _<_, _≤_};
 ghost use mathlib.Core.List.{[]};
 ghost use lib.ListN.{length, drop};
 ghost use Rattle.wire.specs.Utf8.{chars, lead, octet, onto, octets, utf8};
-ghost use Rattle.wire.specs.Utf8State.{ranges, followNext, Upto};
+ghost use Rattle.wire.specs.inner.Utf8State.{ranges, followNext, Upto};
 ghost use Rattle.wire.specs.declared.utf8.Follow.{Follow};
 
 // What must follow in a character: `left` bytes more, the next one from `low` to `high`, those after it from 0x80 to 0xBF.

@@ -1,4 +1,5 @@
 use mathlib.Core.Path.{refl}
+use Rattle.table.proofs.DeskLaws.{eighty, twelve-thousand}
 use borrow.Author.Needs.{needs}
 use Rattle.table.proofs.desk.desk_at.Statement.{statement}
 use Rattle.table.proofs.desk.desk_at.Tie as tie
@@ -28,7 +29,7 @@ returns : tie.Need-returns
 returns c =
     let b2 = c .before .before in
     let b4 = b2 .before .before in
-    rw (b4 .bands-among .ensures, b2 .first-value .ensures, c .first-value2 .ensures) refl
+    rw (eighty, twelve-thousand, b4 .bands-among .ensures, b2 .first-value .ensures, c .first-value2 .ensures) refl
 
 pub desk-at-spec : {M : Type 1} → statement M
 desk-at-spec =

@@ -50,7 +50,7 @@ returns c =
     let b7 = b6 .before in
     let b8 = b7 .before in
     let b11 = b8 .before .before .before in
-    sym (sym (b8 .loop .inv .1) ∙ find-here _ _ _ _ _ _ _ (b7 .loop-test .taken) (sym (b6 .pair-at .ensures) ∙ ap (pairParsed _) (b4 .a .given .1)) (ap (λ (l : List ℕ). same l (b11 .args .key .now)) (sym (b2 .part-of .ensures)) ∙ sym (b1 .same-bytes .ensures) ∙ c .if1 .taken))
+    sym (sym (b8 .loop .inv .1) ∙ find-here _ _ _ _ _ _ _ (b7 .loop-test .taken) (sym (b6 .pair-at .ensures) ∙ ap (pairParsed _) (b4 .a .given .1)) (ap (λ (l : List ℕ). same l (b11 .args .key .now)) (sym (b2 .part-of .ensures .0)) ∙ sym (b1 .same-bytes .ensures) ∙ c .if1 .taken))
 
 -- src/metadata.rt:80:17
 enum-told : tie.Need-enum-told Inv-loop μ-loop
@@ -84,7 +84,7 @@ loop-again c =
     let b7 = b6 .before in
     let b8 = b7 .before in
     let b11 = b8 .before .before .before in
-    (omega arith, sym (find-go _ _ _ _ _ _ _ (b7 .loop-test .taken) (sym (b6 .pair-at .ensures) ∙ ap (pairParsed _) (b4 .a .given .1)) (ap (λ (l : List ℕ). same l (b11 .args .key .now)) (sym (b2 .part-of .ensures)) ∙ sym (b1 .same-bytes .ensures) ∙ c .if1 .left)) ∙ b8 .loop .inv .1)
+    (omega arith, sym (find-go _ _ _ _ _ _ _ (b7 .loop-test .taken) (sym (b6 .pair-at .ensures) ∙ ap (pairParsed _) (b4 .a .given .1)) (ap (λ (l : List ℕ). same l (b11 .args .key .now)) (sym (b2 .part-of .ensures .0)) ∙ sym (b1 .same-bytes .ensures) ∙ c .if1 .left)) ∙ b8 .loop .inv .1)
 
 -- src/metadata.rt:66:1
 returns-3 : tie.Need-returns-3 Inv-loop μ-loop

@@ -41,7 +41,7 @@ returns c =
     let b3 = b1 .before .before in
     let b5 = b3 .before .before in
     let b7 = b5 .before .before in
-    rw (sym (b7 .string .ensures) ∙ ap stringParsed (b5 .a .given .1), sym (b3 .u32 .ensures) ∙ ap u32Parsed (b1 .v .given .1)) refl
+    rw (sym (b7 .string .ensures .0) ∙ ap stringParsed (b5 .a .given .1), sym (b3 .u32 .ensures) ∙ ap u32Parsed (b1 .v .given .1)) refl
 
 -- src/metadata.rt:32:1
 returns-2 : tie.Need-returns-2
@@ -50,21 +50,21 @@ returns-2 c =
     let b2 = c .before .before in
     let b4 = b2 .before .before in
     let b6 = b4 .before .before in
-    rw (sym (b6 .string .ensures) ∙ ap stringParsed (b4 .a .given .1), sym (b2 .u32 .ensures) ∙ ap u32Parsed (c .enum-told .given .1)) refl
+    rw (sym (b6 .string .ensures .0) ∙ ap stringParsed (b4 .a .given .1), sym (b2 .u32 .ensures) ∙ ap u32Parsed (c .enum-told .given .1)) refl
 
 -- src/metadata.rt:32:1
 returns-3 : tie.Need-returns-3
 unfolding pair
 returns-3 c =
     let b2 = c .before .before in
-    rw (sym (b2 .string .ensures) ∙ ap stringParsed (c .enum-told2 .given .1)) refl
+    rw (sym (b2 .string .ensures .0) ∙ ap stringParsed (c .enum-told2 .given .1)) refl
 
 -- src/metadata.rt:32:1
 returns-4 : tie.Need-returns-4
 unfolding pair
 returns-4 c =
     let b2 = c .before .before in
-    rw (sym (b2 .string .ensures) ∙ ap stringParsed (c .enum-told3 .given .1)) refl
+    rw (sym (b2 .string .ensures .0) ∙ ap stringParsed (c .enum-told3 .given .1)) refl
 
 pub pair-at-spec : {M : Type 1} → statement M
 pair-at-spec =

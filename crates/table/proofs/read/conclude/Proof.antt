@@ -1,5 +1,5 @@
 use mathlib.Core.Path.{refl}
-use Rattle.table.specs.Baseline.{verdictFrom}
+use Rattle.table.specs.inner.Baseline.{verdictFrom}
 use Rattle.table.specs.Span.{agree}
 use borrow.Author.Needs.{needs}
 use Rattle.table.proofs.read.conclude.Statement.{statement}

@@ -5,7 +5,7 @@ use Rattle.wire.specs.Parse.{many}
 use Rattle.wire.proofs.Many.{whole}
 use Rattle.table.specs.declared.span.Baseline.{Baseline}
 use Rattle.table.specs.Image.{entry, entries}
-use Rattle.table.specs.Baseline.{outcome}
+use Rattle.table.specs.inner.Baseline.{outcome}
 use Rattle.table.specs.Answer.{entryParsed}
 use Rattle.table.proofs.SpanLaws.{entries-go, entries-no, entries-end}
 use borrow.Author.Needs.{needs}

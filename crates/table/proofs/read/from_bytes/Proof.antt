@@ -37,7 +37,7 @@ returns-2 c =
     let b1 = c .before in
     let b3 = b1 .before .before in
     let b4 = b3 .before in
-    sym (ap counts (read-no _ _ (b4 .if1 .left) (sym (b3 .header-at .ensures) ∙ ap (headerParsed _) (b1 .e .given .1))))
+    sym (ap counts (read-no _ _ (b4 .if1 .left) (sym (b3 .header-at .ensures .0) ∙ ap (headerParsed _) (b1 .e .given .1))))
 
 -- src/read.rt:60:1
 returns-3 : tie.Need-returns-3
@@ -45,7 +45,7 @@ returns-3 c =
     let b3 = c .before .before .before in
     let b5 = b3 .before .before in
     let b6 = b5 .before in
-    c .entries-at .ensures ∙ sym (read-go _ _ _ (b6 .if1 .left) (sym (b5 .header-at .ensures) ∙ ap (headerParsed _) (b3 .h .given .1)))
+    c .entries-at .ensures ∙ sym (read-go _ _ _ (b6 .if1 .left) (sym (b5 .header-at .ensures .0) ∙ ap (headerParsed _) (b3 .h .given .1)))
 
 pub from-bytes-spec : {M : Type 1} → statement M
 from-bytes-spec =

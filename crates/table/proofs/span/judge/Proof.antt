@@ -1,5 +1,5 @@
 use mathlib.Core.Path.{refl, sym, _∙_}
-use Rattle.table.specs.Baseline.{judged}
+use Rattle.table.specs.inner.Baseline.{judged}
 use borrow.Author.Needs.{needs}
 use Rattle.table.proofs.span.judge.Statement.{statement}
 use Rattle.table.proofs.span.judge.Tie as tie

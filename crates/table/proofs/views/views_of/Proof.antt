@@ -1,7 +1,8 @@
-use mathlib.Core.Path.{refl, sym, ap, _∙_}
+use mathlib.Core.Path.{sym, ap, _∙_}
 use Rattle.table.specs.Answer.{headerParsed, counts}
+use Rattle.table.specs.Views.{viewsOf}
 use Rattle.table.proofs.ReadLaws.{read-long, read-no, read-go}
-use Rattle.table.proofs.ViewsLaws.{views-stand, no-views-stand}
+use Rattle.table.proofs.ViewsLaws.{kept-are}
 use borrow.Author.Needs.{needs}
 use Rattle.table.proofs.views.views_of.Statement.{statement}
 use Rattle.table.proofs.views.views_of.Tie as tie
@@ -14,9 +15,8 @@ no-views-requires c κs = search needs
 returns : tie.Need-returns
 returns c =
     let b1 = c .before in
-    let b3 = b1 .before .before in
-    let p = read-long (b3 .args .image .now) (b1 .if1 .taken) in
-    record { reading = c .no-views .ensures ∙ sym (ap counts p); views = no-views-stand (b3 .args .image .now) _ _ p refl }
+    let p = read-long _ (b1 .if1 .taken) in
+    record { reading = c .no-views .ensures .0 ∙ sym (ap counts p); views = c .no-views .ensures .1 ∙ sym (ap viewsOf p) }
 
 -- src/views.rt:95:11
 header-at-requires : tie.Need-header-at-requires
@@ -47,20 +47,17 @@ returns-2 : tie.Need-returns-2
 returns-2 c =
     let b2 = c .before .before in
     let b4 = b2 .before .before in
-    let b5 = b4 .before in
-    let b7 = b5 .before .before in
-    let p = read-no (b7 .args .image .now) _ (b5 .if1 .left) (sym (b4 .header-at .ensures) ∙ ap (headerParsed _) (b2 .e .given .1)) in
-    record { reading = c .no-views2 .ensures ∙ sym (ap counts p); views = no-views-stand (b7 .args .image .now) _ _ p refl }
+    let p = read-no _ _ (b4 .before .if1 .left) (sym (b4 .header-at .ensures .0) ∙ ap (headerParsed _) (b2 .e .given .1)) in
+    record { reading = c .no-views2 .ensures .0 ∙ sym (ap counts p); views = c .no-views2 .ensures .1 ∙ sym (ap viewsOf p) }
 
 -- src/views.rt:89:1
 returns-3 : tie.Need-returns-3
 returns-3 c =
     let b3 = c .before .before .before in
     let b5 = b3 .before .before in
-    let b6 = b5 .before in
-    let b8 = b6 .before .before in
-    let g = sym (b5 .header-at .ensures) ∙ ap (headerParsed _) (b3 .h .given .1) in
-    record { reading = c .views-at .ensures .0 ∙ sym (read-go _ _ _ (b6 .if1 .left) g); views = views-stand (b8 .args .image .now) _ _ (c .views-at .result .views) g (c .views-at .ensures .1) }
+    let g = sym (b5 .header-at .ensures .0) ∙ ap (headerParsed _) (b3 .h .given .1) in
+    let e = c .views-at .ensures .0 ∙ sym (read-go _ _ _ (b5 .before .if1 .left) g) in
+    record { reading = e; views = c .views-at .ensures .1 ∙ kept-are _ _ _ _ g e }
 
 pub views-of-spec : {M : Type 1} → statement M
 views-of-spec =

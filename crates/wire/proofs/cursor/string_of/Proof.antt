@@ -1,16 +1,17 @@
 use mathlib.Core.Path.{sym}
-use Rattle.wire.specs.Cursor.{stringOf}
-use Rattle.wire.proofs.Laws.{past, lacking, string-good, string-bad}
+use Rattle.wire.specs.Cursor.{takeAt, stringOf}
+use Rattle.wire.proofs.Laws.{room, past, lacking, string-good, string-bad}
 use borrow.Author.Needs.{needs}
 use Rattle.wire.proofs.cursor.string_of.Statement.{statement}
 use Rattle.wire.proofs.cursor.string_of.Tie as tie
 
 -- src/cursor.rt:121:9
 returns : tie.Need-returns
-unfolding stringOf
+unfolding stringOf takeAt
 returns c =
     let b2 = c .before .before in
-    simp (past _ (b2 .args .n) _ (c .if1 .taken))
+    let e = past _ (b2 .args .n) _ (c .if1 .taken) in
+    (simp e, simp e)
 
 -- src/cursor.rt:123:13
 sub-if2 : tie.Need-sub-if2
@@ -38,26 +39,29 @@ from-utf8-requires c κs = search needs
 
 -- src/cursor.rt:117:1
 returns-2 : tie.Need-returns-2
+unfolding takeAt
 returns-2 c =
     let b1 = c .before in
     let b3 = b1 .before .before in
     let b4 = b3 .before in
-    sym (string-good _ _ _ (b4 .if1 .left) (b3 .if2 .taken) _ (b1 .from-utf8 .ensures) (c .if3 .taken))
+    (sym (string-good _ _ _ (b4 .if1 .left) (b3 .if2 .taken) _ (b1 .from-utf8 .ensures) (c .if3 .taken)), simp (room _ _ _ (b4 .if1 .left) (b3 .if2 .taken)))
 
 -- src/cursor.rt:117:1
 returns-3 : tie.Need-returns-3
+unfolding takeAt
 returns-3 c =
     let b1 = c .before in
     let b3 = b1 .before .before in
     let b4 = b3 .before in
-    sym (string-bad _ _ _ (b4 .if1 .left) (b3 .if2 .taken) _ (b1 .from-utf8 .ensures) (c .if3 .left))
+    (sym (string-bad _ _ _ (b4 .if1 .left) (b3 .if2 .taken) _ (b1 .from-utf8 .ensures) (c .if3 .left)), simp (room _ _ _ (b4 .if1 .left) (b3 .if2 .taken)))
 
 -- src/cursor.rt:117:1
 returns-4 : tie.Need-returns-4
-unfolding stringOf
+unfolding stringOf takeAt
 returns-4 c =
     let b1 = c .before in
-    simp (lacking _ _ _ (b1 .if1 .left) (c .if2 .left))
+    let e = lacking _ _ _ (b1 .if1 .left) (c .if2 .left) in
+    (simp e, simp e)
 
 pub string-of-spec : {M : Type 1} → statement M
 string-of-spec =

@@ -8,7 +8,7 @@ use borrow.Author.Needs.{needs}
 use native.Mathlib.Omega.{arith}
 use Rattle.wire.specs.declared.utf8.Follow.{Follow}
 use Rattle.wire.specs.Utf8.{octets, utf8, onto}
-use Rattle.wire.specs.Utf8State.{ranges, restOf, followNext}
+use Rattle.wire.specs.inner.Utf8State.{ranges, restOf, followNext}
 use Rattle.wire.proofs.Laws.{octets-end}
 use Rattle.wire.proofs.utf8.from_utf8.Statement.{statement}
 use Rattle.wire.proofs.utf8.from_utf8.Tie as tie

@@ -7,7 +7,7 @@ use borrow.Author.Needs.{needs}
 use borrow.Author.Count.{below-more}
 use native.Mathlib.Nat.{le-trans}
 use native.Mathlib.Omega.{arith}
-use Rattle.wire.specs.Utf8State.{Upto}
+use Rattle.wire.specs.inner.Utf8State.{Upto}
 use Rattle.wire.proofs.utf8.highest.Statement.{statement}
 use Rattle.wire.proofs.utf8.highest.Tie as tie
 

@@ -1,7 +1,7 @@
 use native.Mathlib.Omega.{arith}
 use borrow.Author.Tests.{le-leb, lt-leb}
 use Rattle.wire.specs.Utf8.{lead}
-use Rattle.wire.specs.Utf8State.{restOf}
+use Rattle.wire.specs.inner.Utf8State.{restOf}
 use borrow.Author.Needs.{needs}
 use Rattle.wire.proofs.utf8.lead_byte.Statement.{statement}
 use Rattle.wire.proofs.utf8.lead_byte.Tie as tie

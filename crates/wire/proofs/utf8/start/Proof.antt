@@ -4,7 +4,7 @@ use mathlib.Core.Path.{_≡_, sym, ap, _∙_}
 use mathlib.Core.List.{List, []}
 use lib.ListN.{drop}
 use Rattle.wire.specs.Utf8.{octets}
-use Rattle.wire.specs.Utf8State.{restOf, ranges}
+use Rattle.wire.specs.inner.Utf8State.{restOf, ranges}
 use Rattle.wire.specs.declared.utf8.Rest.{Rest}
 use borrow.Author.Needs.{needs}
 use Rattle.wire.proofs.utf8.start.Statement.{statement}

@@ -5,7 +5,7 @@ use lib.ListN.{length, drop}
 use borrow.Author.Needs.{needs}
 use native.Mathlib.Omega.{arith}
 use Rattle.wire.specs.Utf8.{octets}
-use Rattle.wire.specs.Utf8State.{ranges, followNext}
+use Rattle.wire.specs.inner.Utf8State.{ranges, followNext}
 use Rattle.wire.proofs.Laws.{octets-go, octets-stop, octet-plain}
 use Rattle.wire.proofs.utf8.walk.Statement.{statement}
 use Rattle.wire.proofs.utf8.walk.Tie as tie

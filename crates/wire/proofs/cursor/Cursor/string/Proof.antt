@@ -1,7 +1,5 @@
-use Prim.Native.Nat.{ℕ}
-use mathlib.Core.Path.{sym, ap, _∙_}
-use Rattle.wire.specs.Parse.{Parsed, then}
-use Rattle.wire.specs.Cursor.{stringOf, string, u32Parsed}
+use mathlib.Core.Path.{refl, sym, ap, _∙_}
+use Rattle.wire.specs.Cursor.{string, stringEnd, u32Parsed}
 use borrow.Author.Needs.{needs}
 use Rattle.wire.proofs.cursor.Cursor.string.Statement.{statement}
 use Rattle.wire.proofs.cursor.Cursor.string.Tie as tie
@@ -28,20 +26,19 @@ enum-told c = search needs
 
 -- src/cursor.rt:106:5
 returns : tie.Need-returns
-unfolding string
+unfolding string stringEnd
 returns c =
     let b2 = c .before .before in
     let b4 = b2 .before .before in
-    let b6 = b4 .before .before in
-    c .string-of .ensures ∙ ap (λ (w : Parsed ℕ). then w (λ n m. stringOf n (b6 .args .s .now) m)) (sym (ap u32Parsed (b2 .n .given .1)) ∙ b4 .u32 .ensures)
+    let e = sym (b4 .u32 .ensures) ∙ ap u32Parsed (b2 .n .given .1) in
+    (rw e (c .string-of .ensures .0), rw e (c .string-of .ensures .1))
 
 -- src/cursor.rt:106:5
 returns-2 : tie.Need-returns-2
-unfolding string
+unfolding string stringEnd
 returns-2 c =
-    let b2 = c .before .before in
-    let b4 = b2 .before .before in
-    ap (λ (w : Parsed ℕ). then w (λ n m. stringOf n (b4 .args .s .now) m)) (sym (ap u32Parsed (c .enum-told .given .1)) ∙ b2 .u32 .ensures)
+    let e = sym (c .before .before .u32 .ensures) ∙ ap u32Parsed (c .enum-told .given .1) in
+    (rw e refl, rw e refl)
 
 pub string-spec : {M : Type 1} → statement M
 string-spec =

@@ -45,8 +45,8 @@ use denote.Exit.{yes}
 use Rattle.wire.specs.declared.cursor.Taken.{Taken}
 use Rattle.wire.specs.declared.reader.Reader.{Reader}
 use Rattle.wire.specs.Parse.{Parsed}
-use Rattle.wire.specs.Cursor.{takeAt, takenParsed}
-use Rattle.wire.specs.Reader.{after, movedTo}
+use Rattle.wire.specs.Cursor.{takeAt, after, takenParsed}
+use Rattle.wire.specs.Reader.{movedTo}
 use Rattle.wire.proofs.Held.{valueOf, OfSlice, OfReader, slice-of, reader-of, both}
 use Rattle.wire.proofs.reader.Reader as T
 use Rattle.wire.proofs.reader.Reader.Laws as T′

@@ -1,0 +1,5 @@
+-- What only private functions cite: none of it is to be believed.
+pub mod Baseline
+pub mod Entry
+pub mod Header
+pub mod KeptViews
