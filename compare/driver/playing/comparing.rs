@@ -110,7 +110,22 @@ pub fn our_play(v: &Voice, p: &Play, out: &mut [f32]) -> Result<ffi::PlayedAnswe
     if bytes(&own) != bytes(&got.voice) {
         return Err("a play in place leaves another voice".into());
     }
+    if v.blend == 0 && number == 0 {
+        by_its_bands(v, p, &own, &heard)?;
+    }
     Ok(got)
+}
+
+// A single voice plays all its bands, whatever its list of live bands says, and takes no notice of k.
+fn by_its_bands(v: &Voice, p: &Play, after: &Voice, heard: &[f32]) -> Result<(), String> {
+    let (mut own, mut out) = (Voice { k: 4, live_count: 0, live: [0; 16], ..*v }, heard.to_vec());
+    out.fill(f32::from_bits(0x7fc0_1234));
+    numbers("number of a single voice without a list", play_in(&mut own, p, &mut out), 0)?;
+    floats("samples of a single voice without a list", &out, heard)?;
+    if bytes(&Voice { k: v.k, live_count: v.live_count, live: v.live, ..own }) != bytes(after) {
+        return Err("a single voice without a list leaves another voice".into());
+    }
+    Ok(())
 }
 
 // A voice that breaks a rule of document 01, or nearly does.

@@ -12,7 +12,7 @@ use lib.Ieee.Fits.{round-fits, cond-fits}
 use lib.Ieee.Scale.{finite}
 use borrow.Author.Tests.{eqb-false}
 use Rattle.wire.specs.Parse.{pick}
-use Rattle.float.specs.Range.{Within}
+use Rattle.float.specs.inner.Range.{Within}
 use Rattle.float.specs.F32.{nearest}
 use Rattle.player.specs.Phase.{Step, advanceOf}
 use Rattle.voice.specs.Lists.{mapTo, steps}

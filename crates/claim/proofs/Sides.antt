@@ -8,7 +8,7 @@ use lib.ListN.{getD}
 use lib.Dec.{T, lit≤}
 use lib.Ieee.{Float, nan, binary32, round, le, fits}
 use Rattle.wire.specs.Parse.{pick}
-use Rattle.float.specs.Range.{plain, Within}
+use Rattle.float.specs.inner.Range.{plain, Within}
 use Rattle.float.proofs.Finite.{shown}
 use Rattle.float.specs.F32.{nearest}
 use Rattle.player.specs.Share.{shareOf}

@@ -7,7 +7,7 @@ use mathlib.Core.Bool.{Bool, true, false, not, _&&_, cond, Bool·beq}
 use lib.Dec.{T, ltb}
 use lib.Ieee.{Float, nan, inf, fin, Format, up, down, round, sum, add, neg}
 use lib.Ieee.Fits.{down-pos}
-use Rattle.float.specs.Range.{plain, Mag}
+use Rattle.float.specs.inner.Range.{plain, Mag}
 use Rattle.float.proofs.Within.{Holds}
 use Rattle.float.proofs.Mag.{round-mag}
 

@@ -11,7 +11,7 @@ use lib.Ieee.{Float, nan, inf, fin, binary32, up, down, round, lt, isNan, fits}
 use lib.Ieee.Fits.{down-pos, and-l, and-r}
 use lib.Ieee.Exact.{round-exact}
 use lib.Ieee.Positive.{num, den, den-pos, through}
-use Rattle.float.specs.Range.{plain, Within}
+use Rattle.float.specs.inner.Range.{plain, Within}
 use Rattle.float.specs.Order.{minimum, maximum}
 use Rattle.float.proofs.Within.{Holds, round-within, mul-is, mul-within, div-within, add-within, le→cross}
 use Rattle.float.proofs.Fraction.{not-lt}

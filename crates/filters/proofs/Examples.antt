@@ -12,7 +12,7 @@ use lib.Ieee.Positive.{num, den}
 use borrow.Author.Tests.{ltb-false, lt-ltb, le-ltb}
 use Rattle.float.specs.F32.{_⊗_, _⊘_, nearest}
 use Rattle.float.specs.Order.{minimum, maximum}
-use Rattle.float.specs.Range.{plain}
+use Rattle.float.specs.inner.Range.{plain}
 use Rattle.float.specs.Root.{grown, root}
 use Rattle.float.specs.Sqrt.{sqrt}
 use Rattle.float.proofs.Within.{mul-is}

@@ -7,7 +7,7 @@ use mathlib.Core.Bool.{Bool, true, false, not, cond}
 use lib.IntN.{pos, negsuc, natAbs}
 use lib.Dec.{T, ltb, ltb→lt, nltb→le, lit<, lit≤}
 use lib.Ieee.{Float, nan, inf, fin, binary32, up, down, unlike, round, ofInt, mul, div}
-use Rattle.float.specs.Range.{Mag}
+use Rattle.float.specs.inner.Range.{Mag}
 use Rattle.float.proofs.Mag.{int-mag, mul-mag}
 use Rattle.filters.specs.Rng.{stepped, signedOf, bipolarOf, nextBipolar}
 use Rattle.filters.specs.declared.rng.Rng.{Rng}

@@ -12,7 +12,7 @@ use lib.Ieee.Fits.{mul-fits}
 use lib.Ieee.Exact.{HasValue}
 use lib.Ieee.Back.{round-whole}
 use lib.Ieee.Positive.{num, den, den-pos}
-use Rattle.float.specs.Range.{plain, Within, Below, Mag}
+use Rattle.float.specs.inner.Range.{plain, Within, Below, Mag}
 use Rattle.float.proofs.Within.{Holds, value-plain, value-cross, value-within, mul-within, lt→cross, cross→lt, le→cross}
 use Rattle.float.proofs.Scaled.{scale-value}
 use Rattle.float.proofs.Fraction.{fraction-value, whole-is, not-lt}

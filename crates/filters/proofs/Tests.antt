@@ -10,7 +10,7 @@ use lib.Dec.{T, eqb, eqb→eq, lit<}
 use lib.Pow.{pow-pos}
 use lib.Ieee.{Float, nan, inf, fin, round, up, down, lt, eq, le, toUnsigned}
 use lib.Ieee.Fits.{down-pos, and-r}
-use Rattle.float.specs.Range.{Within}
+use Rattle.float.specs.inner.Range.{Within}
 use Rattle.float.proofs.Within.{le→cross, cross→le}
 use Rattle.float.proofs.Bounds.{le-or-lt}
 use Rattle.float.specs.F32.{nearest}

@@ -3,7 +3,7 @@ use Prim.Native.Nat.{_*_, _≤_}
 use mathlib.Core.Bool.{Bool, _&&_}
 use lib.Ieee.{Float, le}
 use lib.Ieee.Positive.{num, den}
-use Rattle.float.specs.Range.{Within}
+use Rattle.float.specs.inner.Range.{Within}
 use Rattle.float.specs.F32.{nearest}
 
 -- question 11: finite and 8,000 to 192,000 (a NaN and an infinity fail)

@@ -7,7 +7,7 @@ use lib.ListN.{getD}
 use lib.Dec.{leb}
 use lib.IntN.{ℤ, pos, negsuc, negℤ, _-ℤ_}
 use lib.Ieee.{Float, fin, binary32, lt, ofInt, toUnsigned}
-use Rattle.float.specs.Range.{Below}
+use Rattle.float.specs.inner.Range.{Below}
 use Rattle.float.specs.Fraction.{fraction}
 use Rattle.wave_table.specs.Wave.{waveOf}
 use Rattle.float.specs.F32.{_⊕_, _⊗_, nearest}

@@ -2,7 +2,7 @@
 ghost use mathlib.Core.Path.{_≡_};
 ghost use Prim.Native.Nat.{_≤_};
 ghost use lib.Ieee.{toUnsigned};
-ghost use Rattle.float.specs.Range.{Within};
+ghost use Rattle.float.specs.inner.Range.{Within};
 
 // Through u32, since a u64 is slow to turn back into a float.
 pub fn whole_part(x: f32) -> u32

@@ -13,9 +13,9 @@ use lib.Ieee.Exact.{HasValue}
 use lib.Ieee.Back.{round-whole}
 use lib.Ieee.Order.{round-mono}
 use lib.Ieee.Positive.{num, den, den-pos, first-pos}
-use Rattle.float.specs.Range.{plain, Within}
+use Rattle.float.specs.inner.Range.{plain, Within}
 use Rattle.float.proofs.Within.{Holds, value-within, add-within, mul-within, div-within, sub-within, sub-is, le→cross, fits-holds, fitting}
-use Rattle.float.specs.Range.{UpTo}
+use Rattle.float.specs.inner.Range.{UpTo}
 use Rattle.float.specs.Lerp.{lerp}
 
 pub up-to-self : (x : Float) → T (plain x) → UpTo x x

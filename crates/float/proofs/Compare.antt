@@ -10,7 +10,7 @@ use lib.Ieee.{Float, nan, inf, fin, up, down, lt, le, below, level}
 use lib.Ieee.Fits.{and-i, eq→eqb}
 use lib.Ieee.Scale.{finite}
 use lib.Ieee.Positive.{num, den, positive, above, above-of-le}
-use Rattle.float.specs.Range.{plain, Within, Below, AtLeast}
+use Rattle.float.specs.inner.Range.{plain, Within, Below, AtLeast}
 use Rattle.float.proofs.Within.{le→cross}
 use Rattle.float.proofs.Subnormal.{positive-plain}
 

@@ -15,7 +15,7 @@ use lib.Ieee.Back.{round-whole}
 use lib.Ieee.Order.{transfer, round-mono}
 use lib.Ieee.Scale.{round-same}
 use lib.Ieee.Positive.{num, den, den-pos}
-use Rattle.float.specs.Range.{plain, Within}
+use Rattle.float.specs.inner.Range.{plain, Within}
 use Rattle.float.proofs.Within.{value-plain, value-cross, round-within, fitting, add-is, sub-is, le→cross, lt→cross, cross→lt}
 use Rattle.float.proofs.Bounds.{int-value}
 use Rattle.float.proofs.Fraction.{whole-is, widen, one}

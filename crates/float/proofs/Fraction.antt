@@ -15,7 +15,7 @@ use lib.Ieee.Back.{round-whole}
 use lib.Ieee.Order.{transfer}
 use lib.Ieee.Scale.{round-same}
 use lib.Ieee.Positive.{num, den, den-pos}
-use Rattle.float.specs.Range.{plain, Within}
+use Rattle.float.specs.inner.Range.{plain, Within}
 use Rattle.float.proofs.Within.{Holds, fitting, value-plain, value-cross, sub-is, holds-at, cross→lt, cross→le, lt→cross, le→cross}
 use Rattle.float.proofs.Unique.{round-self}
 use Rattle.float.specs.Fraction.{fraction}

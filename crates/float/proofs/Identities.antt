@@ -10,7 +10,7 @@ use lib.Ieee.{Float, nan, inf, fin, binary32, up, down, round, sum, add, mul, ne
 use lib.Ieee.Bits.{cond-no}
 use lib.Ieee.Fits.{and-l, neg-fits}
 use lib.Ieee.Positive.{num, den}
-use Rattle.float.specs.Range.{plain}
+use Rattle.float.specs.inner.Range.{plain}
 use Rattle.float.proofs.Within.{on-plains}
 use Rattle.float.proofs.Unique.{plain-unique, round-self}
 use Rattle.float.proofs.Bounds.{round-neg}

@@ -10,10 +10,10 @@ use lib.Ieee.{Float, nan, inf, fin, Format, up, down, unlike, round, sum, add, m
 use lib.Ieee.Fits.{down-pos}
 use lib.Ieee.Scale.{finite}
 use lib.Ieee.Positive.{through}
-use Rattle.float.specs.Range.{plain, Within}
+use Rattle.float.specs.inner.Range.{plain, Within}
 use Rattle.float.proofs.Within.{Holds, round-within}
 use Rattle.float.proofs.Bounds.{round-neg}
-use Rattle.float.specs.Range.{Mag}
+use Rattle.float.specs.inner.Range.{Mag}
 
 plain-finite : (x : Float) → T (plain x) → T (finite x)
 plain-finite nan p = absurd p

@@ -14,7 +14,7 @@ use lib.Ieee.Exact.{HasValue}
 use lib.Ieee.Fits.{mul-fits}
 use lib.Ieee.Positive.{num, den, den-pos, positive}
 use lib.Ieee.Scale.{round-same}
-use Rattle.float.specs.Range.{plain}
+use Rattle.float.specs.inner.Range.{plain}
 use Rattle.float.specs.Root.{root}
 use Rattle.float.specs.Sqrt.{smallest, normal, scaled, significand, rootBits, normalRoot, positiveRoot, sqrt}
 use Rattle.float.specs.Nearest.{NearestRoot}

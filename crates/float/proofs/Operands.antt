@@ -11,7 +11,7 @@ use lib.Ieee.Bits.{is-true, is-false}
 use lib.Ieee.Fits.{up-pos, and-l}
 use lib.Ieee.Positive.{num, positive}
 use lib.Ieee.Scale.{finite}
-use Rattle.float.specs.Range.{plain}
+use Rattle.float.specs.inner.Range.{plain}
 use Rattle.float.specs.Sqrt.{none, smallest, normal, normalRoot, sqrt, positiveRoot}
 use Rattle.float.proofs.Within.{lt→cross}
 use Rattle.float.proofs.Finite.{shown}

@@ -12,7 +12,7 @@ use lib.Ieee.Bits.{ofBits-toBits, nanBits-is, is-true, is-false}
 use lib.Ieee.Exact.{HasValue, odd-sign}
 use lib.Ieee.Fits.{and-l, and-r}
 use lib.Ieee.Positive.{num, den, den-pos}
-use Rattle.float.specs.Range.{plain}
+use Rattle.float.specs.inner.Range.{plain}
 use Rattle.float.specs.Sqrt.{smallest, normal}
 use Rattle.float.proofs.Bounds.{le-or-lt}
 use Rattle.float.proofs.Fraction.{not-lt}

@@ -12,7 +12,7 @@ use lib.Ieee.{Float, nan, inf, fin, binary32, up, down, eq, fits}
 use lib.Ieee.Exact.{HasValue}
 use lib.Ieee.Order.{transfer}
 use lib.Ieee.Positive.{num, den, den-pos, positive, positive-of-value, value-pos}
-use Rattle.float.specs.Range.{plain, Within, AtLeast}
+use Rattle.float.specs.inner.Range.{plain, Within, AtLeast}
 use Rattle.float.specs.Sqrt.{none, sqrt}
 use Rattle.float.specs.Nearest.{NearestRoot}
 use Rattle.float.proofs.Within.{value-plain, value-cross, value-within}

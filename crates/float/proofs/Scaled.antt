@@ -11,7 +11,7 @@ use lib.Ieee.Fits.{down-pos}
 use lib.Ieee.Exact.{HasValue, round-exact}
 use lib.Ieee.Positive.{num, den, den-pos}
 use lib.Ieee.Scale.{round-same}
-use Rattle.float.specs.Range.{plain}
+use Rattle.float.specs.inner.Range.{plain}
 use Rattle.float.proofs.Within.{mul-is, fitting}
 
 pow-le-back : (i j : ℕ) → 2 ^ i ≤ 2 ^ j → i ≤ j

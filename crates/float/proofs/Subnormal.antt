@@ -12,7 +12,7 @@ use lib.Ieee.Fits.{and-i, up-pos}
 use lib.Ieee.Exact.{HasValue}
 use lib.Ieee.Order.{transfer}
 use lib.Ieee.Positive.{num, den, den-pos, positive}
-use Rattle.float.specs.Range.{plain}
+use Rattle.float.specs.inner.Range.{plain}
 use Rattle.float.specs.Sqrt.{normal, smallest}
 use Rattle.float.proofs.Within.{value-plain, value-cross, lt→cross}
 use Rattle.float.proofs.Scaled.{scale-value}

@@ -12,7 +12,7 @@ use lib.Ieee.Exact.{HasValue}
 use lib.Ieee.Fits.{down-pos, round-fits}
 use lib.Ieee.Nearest.{div-same}
 use lib.Ieee.Positive.{num, den}
-use Rattle.float.specs.Range.{plain}
+use Rattle.float.specs.inner.Range.{plain}
 use Rattle.float.proofs.Within.{on-plains, value-plain, value-cross, fits-holds}
 
 -- the pattern, from the size in units of the smallest value

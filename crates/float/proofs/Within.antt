@@ -14,7 +14,7 @@ use lib.Ieee.Bits.{cond-no}
 use lib.Ieee.Exact.{HasValue, round-exact}
 use lib.Ieee.Order.{transfer, le-of-values, round-mono}
 use lib.Ieee.Positive.{num, den, den-pos, through}
-use Rattle.float.specs.Range.{plain, Within}
+use Rattle.float.specs.inner.Range.{plain, Within}
 
 -- ---- a float with no sign is a size: what holds of every size holds of it
 pub on-plain : (P : Float → Type 0) → ((m : ℕ) (e : ℤ) → P (fin false m e)) → (x : Float) → T (plain x) → P x

@@ -1,5 +1,4 @@
 pub mod F32
-pub mod Range
 pub mod Fraction
 pub mod Lerp
 pub mod Order
@@ -7,3 +6,4 @@ pub mod Root
 pub mod Sqrt
 pub mod Roots
 pub mod Nearest
+pub mod inner

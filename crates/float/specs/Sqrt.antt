@@ -4,8 +4,14 @@ use mathlib.Core.Bool.{Bool, true, false, not, cond, _&&_}
 use lib.IntN.{pos, negsuc}
 use lib.Dec.{eqb}
 use lib.Ieee.{Float, nan, inf, fin, binary32, ofBits, toBits, lt, mul}
-use Rattle.float.specs.Range.{plain}
 use Rattle.float.specs.Root.{root}
+
+-- finite and with no sign: 0 is, -0 is not
+abbrev pub plain : Float → Bool
+plain nan = false
+plain (inf s) = false
+plain (fin true m e) = false
+plain (fin false m e) = true
 
 -- 0, with no sign
 abbrev pub none : Float

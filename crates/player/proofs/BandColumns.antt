@@ -12,13 +12,13 @@ use lib.Dec.{T, eqb, ltb, eqb→eq}
 use lib.Ieee.{Float, nan}
 use borrow.Author.Tests.{eq-eqb, ltb-true}
 use Rattle.wire.specs.Parse.{pick}
-use Rattle.voice.specs.Lists.{Filled, FilledRows, steps}
+use Rattle.voice.specs.Lists.{steps}
 use Rattle.filters.specs.Biquad.{tickOf}
 use Rattle.player.specs.Bracket.{between}
 use Rattle.voice.specs.Voice.{noiseGains, compensations, bandAt, memoryAt, withMemory}
 use Rattle.player.specs.Sound.{sidesAt, noiseRow, noiseIn, tickAt, noiseTerm, noiseSum, movedMemories}
 use Rattle.player.specs.inner.Passes.{LiveFit}
-use Rattle.player.specs.inner.Columns.{stateOfColumns, coeffsOfRows, Memories, Coeffs, Ticked, scattered}
+use Rattle.player.specs.inner.Columns.{stateOfColumns, coeffsOfRows, Memories, Coeffs, Ticked, scattered, Filled, FilledRows}
 use Rattle.player.specs.inner.Terms.{noiseAdded}
 use Rattle.filters.specs.declared.biquad.BiquadState.{BiquadState}
 use Rattle.filters.specs.declared.biquad.Tick.{Tick}

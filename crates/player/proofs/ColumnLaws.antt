@@ -14,10 +14,10 @@ use lib.Ieee.Fits.{add-fits}
 use Rattle.wire.specs.Parse.{pick}
 use Rattle.float.specs.F32.{_⊕_, nearest}
 use Rattle.float.proofs.Identities.{add-minus-zero}
-use Rattle.voice.specs.Lists.{Filled, FilledRows, mapTo, steps}
+use Rattle.voice.specs.Lists.{mapTo, steps}
 use Rattle.filters.specs.Biquad.{tickOf}
 use Rattle.voice.specs.Voice.{memoryAt}
-use Rattle.player.specs.inner.Columns.{added, audible, minusZero, stateOfColumns, coeffsOfRows, Memories, Ticked}
+use Rattle.player.specs.inner.Columns.{added, audible, minusZero, stateOfColumns, coeffsOfRows, Memories, Ticked, Filled, FilledRows}
 use Rattle.filters.specs.declared.biquad.BiquadState.{BiquadState}
 use Rattle.filters.specs.declared.biquad.Tick.{Tick}
 use Rattle.voice.proofs.Loops.{mapTo-at}

@@ -7,15 +7,15 @@ use lib.ListN.{length, getD, set, drop}
 use lib.Dec.{T, eqb}
 use lib.Ieee.{Float, nan, binary32, eq, fits}
 use Rattle.wire.specs.Parse.{pick}
-use Rattle.float.specs.Range.{Within}
-use Rattle.voice.specs.Lists.{Filled, upTo, steps}
+use Rattle.float.specs.inner.Range.{Within}
+use Rattle.voice.specs.Lists.{upTo, steps}
 use Rattle.voice.specs.Input.{cleaned}
 use Rattle.filters.specs.Rng.{nextBipolar}
 use Rattle.voice.specs.Voice.{pitches, noiseGains, compensations}
 use Rattle.player.specs.inner.Tuning.{NoiseTuned}
 use Rattle.player.specs.Sound.{sidesAt, noiseIn, movedMemories, movedRng}
 use Rattle.player.specs.inner.Passes.{LiveFit, rngAt, memoriesAt, noisy, noiseOut}
-use Rattle.player.specs.inner.Columns.{Memories, Coeffs, Ticked, scattered}
+use Rattle.player.specs.inner.Columns.{Memories, Coeffs, Ticked, scattered, Filled}
 use Rattle.player.specs.inner.Terms.{noiseAdded}
 use Rattle.player.specs.declared.constants.Constants.{Constants}
 use Rattle.filters.specs.declared.rng.Bipolar.{Bipolar}

@@ -8,10 +8,11 @@ use lib.ListN.{getD}
 use lib.Dec.{T, eqb}
 use lib.Ieee.{Float, nan, inf, fin, binary32, eq, fits, le}
 use Rattle.wire.specs.Parse.{pick}
-use Rattle.float.specs.Range.{Within}
+use Rattle.float.specs.inner.Range.{Within}
 use Rattle.float.proofs.Identities.{same-float}
 use Rattle.float.specs.F32.{nearest}
-use Rattle.voice.specs.Lists.{Filled, FilledRows, mapTo, steps, every}
+use Rattle.player.specs.inner.Columns.{Filled, FilledRows}
+use Rattle.voice.specs.Lists.{mapTo, steps, every}
 use Rattle.filters.specs.Wave.{sineOf}
 use Rattle.player.specs.Phase.{AllPhases, AllSteps, Phase, Step, advanceOf, partialFreq, stepOf}
 use Rattle.player.specs.Fade.{nyquistFade}

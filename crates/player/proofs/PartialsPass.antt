@@ -7,10 +7,11 @@ use native.Mathlib.Omega.{arith}
 use lib.ListN.{length, getD, set, drop}
 use lib.Dec.{T, eqb}
 use lib.Ieee.{Float, nan, binary32, eq, fits}
-use Rattle.float.specs.Range.{Within}
+use Rattle.float.specs.inner.Range.{Within}
 use Rattle.float.proofs.Identities.{same-float}
 use Rattle.float.specs.F32.{nearest}
-use Rattle.voice.specs.Lists.{Filled, mapTo, upTo, steps}
+use Rattle.player.specs.inner.Columns.{Filled}
+use Rattle.voice.specs.Lists.{mapTo, upTo, steps}
 use Rattle.filters.specs.Wave.{sineOf}
 use Rattle.player.specs.Phase.{advanceOf, inverseOf, stepOf}
 use Rattle.voice.specs.Input.{cleaned}

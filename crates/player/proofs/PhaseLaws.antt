@@ -9,7 +9,7 @@ use lib.Ieee.{Float, fin, binary32, round, ofInt, le, lt, fits}
 use lib.Ieee.Fits.{add-fits}
 use lib.Ieee.Exact.{HasValue}
 use lib.Ieee.Positive.{num, den, den-pos}
-use Rattle.float.specs.Range.{plain, Within}
+use Rattle.float.specs.inner.Range.{plain, Within}
 use Rattle.float.specs.Lerp.{lerp}
 use Rattle.float.proofs.Within.{value-plain, value-cross, add-within, mul-within, div-within, le→cross, lt→cross}
 use Rattle.float.proofs.Fraction.{fraction-value, widen}

@@ -12,7 +12,7 @@ use lib.Dec.{T, ltb, lt→ltb, eqb, eqb→eq, lit≤, lit<}
 use lib.Ieee.{Float, nan, inf, fin, Format, binary32, up, down, round, sum, add, sub, mul, neg, lt, le, eq, fits}
 use lib.Ieee.Fits.{up-pos, down-pos, and-l}
 use lib.Ieee.Positive.{num, den, den-pos}
-use Rattle.float.specs.Range.{plain, Within, UpTo}
+use Rattle.float.specs.inner.Range.{plain, Within, UpTo}
 use Rattle.float.specs.Lerp.{lerp}
 use Rattle.float.specs.Fraction.{fraction}
 use Rattle.float.proofs.Within.{Holds, on-plain, le→cross, lt→cross, cross→le, cross→lt, add-within, mul-within, sub-within, fits-holds}

@@ -11,7 +11,7 @@ use Rattle.float.proofs.Bounds.{le-or-lt}
 use lib.Dec.{eqb, ltb, lit≤}
 use lib.Ieee.{Float, nan, inf, fin, round, le, lt, eq}
 use borrow.Author.Tests.{ltb-true, not-true}
-use Rattle.float.specs.Range.{Within}
+use Rattle.float.specs.inner.Range.{Within}
 use Rattle.float.proofs.Within.{le→cross}
 use Rattle.float.proofs.Fraction.{not-lt}
 use Rattle.float.specs.F32.{_⊗_, nearest}

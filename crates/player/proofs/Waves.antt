@@ -13,12 +13,12 @@ use lib.Seq.{getD-set-same, getD-set-other}
 use lib.Ieee.{Float, nan, fin, binary32, round, ofInt, toUnsigned, inUnsigned, fits, sub}
 use lib.Ieee.Back.{unsigned-back}
 use lib.Ieee.Positive.{num, den}
-use Rattle.float.specs.Range.{Within}
+use Rattle.float.specs.inner.Range.{Within}
 use Rattle.float.proofs.Within.{mul-within}
 use Rattle.float.proofs.Compare.{below-within}
 use Rattle.float.proofs.Fraction.{whole-is, widen}
 use Rattle.float.proofs.Ints.{abs-in-float}
-use Rattle.voice.specs.Lists.{Filled}
+use Rattle.player.specs.inner.Columns.{Filled}
 use Rattle.player.specs.Phase.{Phase, AllPhases}
 use Rattle.wave_table.specs.Wave.{Waves}
 use Rattle.filters.specs.Wave.{placeOf, cellOf, restOf, sineOf}

@@ -5,7 +5,7 @@ use mathlib.Core.Bool.{false}
 use lib.ListN.{getD}
 use lib.IntN.{pos}
 use lib.Ieee.{Float, nan, fin, binary32, ofInt}
-use Rattle.float.specs.Range.{Within}
+use Rattle.float.specs.inner.Range.{Within}
 use Rattle.float.specs.Fraction.{fraction}
 use Rattle.float.specs.F32.{_⊕_, _⊗_, _⊘_}
 pub use Rattle.filters.specs.Wave.{Phase}

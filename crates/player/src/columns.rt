@@ -6,7 +6,8 @@ ghost use Prim.Native.Nat.{_≤_};
 ghost use lib.ListN.{getD};
 ghost use lib.Ieee.{nan, le};
 ghost use Rattle.float.specs.F32.{_⊕_};
-ghost use Rattle.voice.specs.Lists.{Filled, every, steps};
+ghost use Rattle.player.specs.inner.Columns.{Filled};
+ghost use Rattle.voice.specs.Lists.{every, steps};
 
 // The same number in the first n places.
 pub fn fill(xs: &mut [f32; 32], n: usize, x: f32)

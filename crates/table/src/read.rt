@@ -5,8 +5,7 @@ ghost use Rattle.table.specs.Image.{entries};
 ghost use Rattle.table.specs.Decode.{decode, nameOf};
 ghost use Rattle.table.specs.Name.{StartsAt, nameStart};
 ghost use Rattle.table.specs.Answer.{readingParsed, counts};
-ghost use Rattle.table.specs.inner.Baseline.{verdictFrom, concluded, outcome};
-ghost use mathlib.Core.List.{[]};
+ghost use Rattle.table.specs.inner.Baseline.{outcome};
 use crate::accepted::table_header;
 use crate::bytes::part_of;
 use crate::entry::EntryRead;
@@ -15,6 +14,7 @@ use crate::error::CoeffTableCodecError;
 use crate::header::HeaderRead;
 use crate::header::header_at;
 use crate::span::Baseline;
+use crate::span::conclude;
 use crate::span::judge;
 use crate::span::span_of;
 use wire::cursor::Cursor;
@@ -23,20 +23,6 @@ use wire::cursor::Cursor;
 pub enum Reading {
     Accepted(usize, usize),
     Refused(CoeffTableCodecError),
-}
-
-pub fn conclude(j: Baseline, n: usize, end: usize) -> Reading
-    ensures { λ r. ⌜ readingParsed r ≡ concluded (verdictFrom j n []) n end ⌝ }
-{
-    match j {
-        Baseline::Broken(f, b) => Reading::Refused(CoeffTableCodecError::InconsistentNoiseBandSpan(
-            f,
-            b,
-        )),
-        Baseline::Start => Reading::Accepted(n, end),
-        Baseline::Neither => Reading::Accepted(n, end),
-        Baseline::Both(_, _) => Reading::Accepted(n, end),
-    }
 }
 
 // The n entries at a cursor, and question 7 of all. The loop ends at the first entry that is not there, however large n is.

@@ -1,13 +1,16 @@
 // Question 7: the noise-band span of each entry, and whether all agree with the first's.
 ghost use mathlib.Core.Path.{_≡_};
 ghost use Rattle.table.specs.Span.{spanFrom, spanOf, floatEq};
-ghost use Rattle.table.specs.inner.Baseline.{judged};
+ghost use Rattle.table.specs.inner.Baseline.{judged, verdictFrom, concluded};
 ghost use mathlib.Core.Bool.{_&&_};
+ghost use mathlib.Core.List.{[]};
 ghost use Rattle.table.specs.View.{entryAt};
-ghost use Rattle.table.specs.Answer.{foundBits};
+ghost use Rattle.table.specs.Answer.{foundBits, readingParsed};
 use crate::entry::EntryView;
 use crate::entry::metadata_value;
+use crate::error::CoeffTableCodecError;
 use crate::metadata::Found;
+use crate::read::Reading;
 
 // The two keys of the span in one entry, with the values' bits.
 pub enum Span {
@@ -97,5 +100,20 @@ pub fn judge(j: Baseline, i: usize, sp: Span) -> Baseline
                 }
             }
         },
+    }
+}
+
+// The answer to a reading of n entries that end at a position, from what the pass over them holds.
+pub fn conclude(j: Baseline, n: usize, end: usize) -> Reading
+    ensures { λ r. ⌜ readingParsed r ≡ concluded (verdictFrom j n []) n end ⌝ }
+{
+    match j {
+        Baseline::Broken(f, b) => Reading::Refused(CoeffTableCodecError::InconsistentNoiseBandSpan(
+            f,
+            b,
+        )),
+        Baseline::Start => Reading::Accepted(n, end),
+        Baseline::Neither => Reading::Accepted(n, end),
+        Baseline::Both(_, _) => Reading::Accepted(n, end),
     }
 }

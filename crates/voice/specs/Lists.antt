@@ -1,10 +1,8 @@
 -- Lists that a counting loop builds.
 use mathlib.Core.List.{List, [], _∷_, _++_}
 use mathlib.Core.Bool.{Bool, true, _&&_}
-use mathlib.Core.Path.{_≡_}
-use Prim.Native.Nat.{ℕ, zero, suc, _+_, _-_, _*_, _<_}
-use lib.ListN.{length, replicate, getD}
-use lib.Ieee.{Float, nan}
+use Prim.Native.Nat.{ℕ, zero, suc, _+_, _-_}
+use lib.ListN.{length, replicate}
 
 -- the first n elements of a list, each given its index from k and mapped; the rest as they are
 unfoldable pub mapTo : {A : Type 0} → (ℕ → A → A) → ℕ → ℕ → List A → List A
@@ -34,12 +32,3 @@ every test n = steps (λ i b. b && test i) true n
 -- a list made n long with x
 abbrev pub padded : {A : Type 0} → ℕ → A → List A → List A
 padded n x l = l ++ replicate (n - length l) x
-
--- ---- columns: lists of which the first places are in use
--- the first n places hold f 0, f 1, .., f (n - 1)
-pub record Filled (xs : List Float) (f : ℕ → Float) (n : ℕ) : Type 0 where
-  pub at : (i : ℕ) → i < n → getD xs i nan ≡ f i
-
--- rows of 32 places: row q, for q below k, holds f q 0, f q 1, .., f q (n - 1)
-pub record FilledRows (xs : List Float) (f : ℕ → ℕ → Float) (k n : ℕ) : Type 0 where
-  pub at : (q i : ℕ) → q < k → i < n → getD xs (q * 32 + i) nan ≡ f q i

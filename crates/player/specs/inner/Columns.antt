@@ -1,5 +1,5 @@
 -- Columns of live bands: place l of a column belongs to live band l, that is to band `live[l]`. Cited by private functions only.
-use Prim.Native.Nat.{ℕ, _+_, _<_}
+use Prim.Native.Nat.{ℕ, _+_, _*_, _<_}
 use mathlib.Core.Path.{_≡_}
 use mathlib.Core.List.{List}
 use mathlib.Core.Bool.{true}
@@ -62,3 +62,12 @@ audible c x = pick (ne c (nearest 0 1)) x minusZero
 -- what a live band adds
 unfoldable pub bandTerm : Float → Float → Float → Float → Float → Float
 bandTerm coeff noiseGain gain makeup filtered = audible coeff (coeff ⊗ noiseGain ⊗ gain ⊗ makeup ⊗ filtered)
+
+-- ---- columns: lists of which the first places are in use
+-- the first n places hold f 0, f 1, .., f (n - 1)
+pub record Filled (xs : List Float) (f : ℕ → Float) (n : ℕ) : Type 0 where
+  pub at : (i : ℕ) → i < n → getD xs i nan ≡ f i
+
+-- rows of 32 places: row q, for q below k, holds f q 0, f q 1, .., f q (n - 1)
+pub record FilledRows (xs : List Float) (f : ℕ → ℕ → Float) (k n : ℕ) : Type 0 where
+  pub at : (q i : ℕ) → q < k → i < n → getD xs (q * 32 + i) nan ≡ f q i

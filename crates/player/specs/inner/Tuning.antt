@@ -7,10 +7,11 @@ use lib.Dec.{eqb}
 use lib.Ieee.{Float, nan, le}
 use Rattle.wire.specs.Parse.{pick}
 use Rattle.float.specs.F32.{nearest}
-use Rattle.voice.specs.Lists.{Filled, FilledRows, every}
+use Rattle.player.specs.inner.Columns.{Filled, FilledRows}
+use Rattle.voice.specs.Lists.{every}
 use Rattle.player.specs.Phase.{AllSteps, partialFreq, stepOf}
 use Rattle.player.specs.Fade.{nyquistFade}
-use Rattle.float.specs.Range.{Within}
+use Rattle.float.specs.inner.Range.{Within}
 use Rattle.player.specs.Bracket.{bracketOf, sidesOf, SidesIn, between}
 use Rattle.player.specs.Sound.{partialRow, noiseRow}
 use Rattle.player.specs.declared.pitch.bracket.Sides.{Sides}

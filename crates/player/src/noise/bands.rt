@@ -3,8 +3,7 @@ ghost use mathlib.Core.Path.{_≡_};
 ghost use Prim.Native.Nat.{_≤_, _<_, _+_, _*_};
 ghost use lib.ListN.{length, getD};
 ghost use lib.Ieee.{nan};
-ghost use Rattle.voice.specs.Lists.{Filled, FilledRows};
-ghost use Rattle.player.specs.inner.Columns.{LiveIn, Memories, Coeffs, Ticked, scattered};
+ghost use Rattle.player.specs.inner.Columns.{LiveIn, Memories, Coeffs, Ticked, scattered, Filled, FilledRows};
 ghost use Rattle.voice.specs.Limits.{maxBands};
 use voice::band_of;
 

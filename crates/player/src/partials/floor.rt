@@ -2,7 +2,7 @@
 ghost use mathlib.Core.Path.{_≡_};
 ghost use lib.IntN.{pos};
 ghost use lib.Ieee.{binary32, ofInt, toUnsigned};
-ghost use Rattle.float.specs.Range.{Within};
+ghost use Rattle.float.specs.inner.Range.{Within};
 
 // Of a float up to a phase and the largest step, by adding 2^23, which rounds the fraction away.
 pub fn floor(x: f32) -> f32

@@ -2,7 +2,7 @@
 ghost use mathlib.Core.Path.{_≡_};
 ghost use mathlib.Core.Bool.{true};
 ghost use Prim.Native.Nat.{_≤_, _<_, _+_};
-ghost use Rattle.float.specs.Range.{Within};
+ghost use Rattle.float.specs.inner.Range.{Within};
 ghost use Rattle.float.specs.F32.{nearest};
 ghost use Rattle.voice.specs.Lists.{mapTo, steps};
 ghost use Rattle.wave_table.specs.Wave.{Table};

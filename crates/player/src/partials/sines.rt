@@ -5,7 +5,7 @@ ghost use Prim.Native.Nat.{_≤_};
 ghost use lib.ListN.{length, getD};
 ghost use lib.Ieee.{nan};
 ghost use Rattle.player.specs.Phase.{AllPhases};
-ghost use Rattle.voice.specs.Lists.{Filled};
+ghost use Rattle.player.specs.inner.Columns.{Filled};
 ghost use Rattle.wave_table.specs.Wave.{Waves};
 ghost use Rattle.filters.specs.Wave.{restOf, sineOf};
 ghost use Rattle.player.specs.inner.Sines.{cellFloat, indexOf, startOf, riseOf, lineAt, AllCells};

@@ -5,7 +5,7 @@ ghost use Prim.Native.Nat.{_≤_, _<_, _+_, _*_};
 ghost use lib.ListN.{length, getD};
 ghost use lib.Ieee.{nan, le};
 ghost use Rattle.float.specs.Lerp.{lerp};
-ghost use Rattle.float.specs.Range.{Within};
+ghost use Rattle.float.specs.inner.Range.{Within};
 ghost use Rattle.voice.specs.Lists.{every};
 ghost use Rattle.player.specs.Share.{shareOf};
 ghost use Rattle.voice.specs.Voice.{pitchOk};

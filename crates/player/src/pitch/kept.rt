@@ -4,7 +4,7 @@ ghost use mathlib.Core.Bool.{true};
 ghost use Prim.Native.Nat.{_≤_};
 ghost use lib.ListN.{getD};
 ghost use lib.Ieee.{nan, eq};
-ghost use Rattle.float.specs.Range.{Within};
+ghost use Rattle.float.specs.inner.Range.{Within};
 ghost use Rattle.voice.specs.Lists.{every};
 ghost use Rattle.voice.specs.Voice.{pitchOk, stretchOk};
 ghost use Rattle.player.specs.inner.Tuning.{PitchAt};

@@ -4,7 +4,7 @@ ghost use mathlib.Core.Bool.{true};
 ghost use lib.ListN.{getD};
 ghost use lib.Ieee.{nan};
 ghost use Rattle.float.specs.Lerp.{lerp};
-ghost use Rattle.float.specs.Range.{Within};
+ghost use Rattle.float.specs.inner.Range.{Within};
 ghost use Rattle.player.specs.Bracket.{SidesIn, between};
 ghost use Rattle.voice.specs.Voice.{stretchOk};
 ghost use Rattle.voice.specs.Limits.{maxEntries};

@@ -5,7 +5,7 @@ use Prim.Native.Nat.{ℕ, _≤_, min, max}
 use native.Mathlib.Omega.{arith}
 use lib.Dec.{T, lit≤, lit<}
 use lib.Ieee.{ofBits, toUnsigned}
-use Rattle.float.specs.Range.{Within}
+use Rattle.float.specs.inner.Range.{Within}
 use Rattle.float.proofs.Fraction.{widen}
 use Rattle.filters.proofs.Tests.{whole-above, whole-below, between-within}
 use Rattle.filters.proofs.compensation.hold.Statement.{statement}

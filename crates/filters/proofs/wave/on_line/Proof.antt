@@ -7,7 +7,7 @@ use Prim.Native.Nat.{_<_}
 use lib.Dec.{T}
 use lib.IntN.{pos}
 use lib.Ieee.{binary32, fits, ofBits}
-use Rattle.float.specs.Range.{Within}
+use Rattle.float.specs.inner.Range.{Within}
 use Rattle.float.proofs.Ints.{abs-in-float}
 use Rattle.filters.specs.Wave.{placeOf, cellOf}
 use Rattle.filters.proofs.SineLaws.{place-within, cell-lt}

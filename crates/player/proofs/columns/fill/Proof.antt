@@ -3,7 +3,7 @@ use mathlib.Core.Path.{_≡_, refl}
 use Prim.Native.Nat.{_-_, _≤_}
 use native.Mathlib.Omega.{arith}
 use lib.ListN.{length, length-set}
-use Rattle.voice.specs.Lists.{Filled}
+use Rattle.player.specs.inner.Columns.{Filled}
 use Rattle.player.proofs.ColumnLaws.{filled-none, filled-again, filled-full}
 use borrow.Author.Needs.{needs}
 use Rattle.player.proofs.columns.fill.Statement.{statement}

@@ -4,7 +4,7 @@ use Prim.Native.Nat.{ℕ, _-_, _≤_}
 use native.Mathlib.Omega.{arith}
 use lib.ListN.{length, length-set}
 use lib.Ieee.{Float}
-use Rattle.voice.specs.Lists.{FilledRows}
+use Rattle.player.specs.inner.Columns.{FilledRows}
 use Rattle.player.proofs.ColumnLaws.{RowFilled, row-none, row-again, rows-keep, rows-again}
 use Rattle.player.specs.Sound.{partialRow}
 use borrow.Author.Needs.{needs}

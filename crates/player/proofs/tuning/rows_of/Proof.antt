@@ -1,7 +1,7 @@
 -- `rows_of` meets its contract.
 use Prim.Native.Nat.{_-_, _≤_}
 use native.Mathlib.Omega.{arith}
-use Rattle.voice.specs.Lists.{FilledRows}
+use Rattle.player.specs.inner.Columns.{FilledRows}
 use Rattle.player.proofs.ColumnLaws.{rows-none, rows-full}
 use Rattle.player.specs.Sound.{partialRow}
 use borrow.Author.Needs.{needs}

@@ -5,7 +5,7 @@ use native.Mathlib.Omega.{arith}
 use lib.ListN.{length, length-set}
 use lib.Ieee.{Float}
 use Rattle.float.specs.F32.{_⊗_}
-use Rattle.voice.specs.Lists.{Filled}
+use Rattle.player.specs.inner.Columns.{Filled}
 use Rattle.player.proofs.ColumnLaws.{filled-none, filled-again, filled-full}
 use Rattle.player.specs.Phase.{partialFreq, stepOf}
 use borrow.Author.Needs.{needs}

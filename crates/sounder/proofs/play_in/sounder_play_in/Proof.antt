@@ -24,7 +24,7 @@ use types.Kit.{Given, Item, ‵, raw, some, later, _⊛_, ⋆, _$_, _∵_, !, qe
 use types.Run.{look, init, forget, stop, hop, fld, from, load, addr, of-opd, and-then, no-more, assigns, land, returns, enter, alloc1, alloc0, params1, pass1, pass0, free1, free0}
 use types.Part.{agg, whole, sub, look-in, store-in}
 use types.SemTy.{Body}
-use types.Tokens.{lft-new, lft-end, lent-back}
+use types.Tokens.{lft-new, lft-end}
 use sound.WpLaws.{FmC, fmOf, WpFn-mono}
 use denote.RattleType.{owns}
 use denote.Memory.{mem, cellAt, partAt}

@@ -1,7 +1,6 @@
-use Prim.Native.Nat.{_+_, _*_}
-use mathlib.Core.Path.{_≡_, refl, sym, ap, _∙_}
+use mathlib.Core.Path.{sym, ap, _∙_}
 use native.Mathlib.Omega.{arith}
-use Rattle.table.specs.inner.Entry.{numbersParsed, NumbersPlaced, pairsParsed, PairsPlaced}
+use Rattle.table.specs.inner.Entry.{numbersParsed, pairsParsed}
 use Rattle.table.proofs.WordLaws.{length-words}
 use Rattle.table.proofs.EntryLaws.{no-numbers, no-rows-after, no-pairs-after, entry-then}
 use Rattle.table.proofs.SizeLaws.{entry-end, view-is}

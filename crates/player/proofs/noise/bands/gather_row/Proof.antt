@@ -3,7 +3,7 @@ use Prim.Native.Nat.{ℕ, _+_, _-_, _*_, _≤_}
 use native.Mathlib.Omega.{arith}
 use lib.ListN.{length, getD, length-set}
 use lib.Ieee.{Float, nan}
-use Rattle.voice.specs.Lists.{FilledRows}
+use Rattle.player.specs.inner.Columns.{FilledRows}
 use Rattle.player.proofs.ColumnLaws.{RowFilled, row-none, row-again, rows-keep, rows-again}
 -- `gather_row` meets its contract.
 use borrow.Author.Needs.{needs}

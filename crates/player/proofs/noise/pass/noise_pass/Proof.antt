@@ -4,7 +4,7 @@ use Prim.Native.Nat.{ℕ, _-_, _≤_}
 use native.Mathlib.Omega.{arith}
 use lib.ListN.{length, drop, length-set}
 use lib.Ieee.{Float}
-use Rattle.float.specs.Range.{Within}
+use Rattle.float.specs.inner.Range.{Within}
 use Rattle.voice.specs.Input.{frequencyOf, gainsOf, cleaned}
 use Rattle.player.specs.inner.Passes.{noiseVoice, noiseOut}
 use Rattle.voice.specs.declared.voice.Voice.{Voice}

@@ -4,7 +4,8 @@ use Prim.Native.Nat.{_-_, _+_, _*_, _≤_}
 use native.Mathlib.Omega.{arith}
 use lib.ListN.{getD}
 use lib.Ieee.{nan, ofBits, round}
-use Rattle.voice.specs.Lists.{Filled, steps}
+use Rattle.player.specs.inner.Columns.{Filled}
+use Rattle.voice.specs.Lists.{steps}
 use Rattle.player.specs.Sound.{blendPower}
 use Rattle.voice.proofs.Loops.{steps-again}
 use Rattle.player.proofs.ColumnLaws.{filled-as}

@@ -6,7 +6,7 @@ use native.Mathlib.Omega.{arith}
 use lib.ListN.{length, drop, length-set}
 use lib.Dec.{T}
 use lib.Ieee.{Float, binary32, eq, fits}
-use Rattle.float.specs.Range.{Within}
+use Rattle.float.specs.inner.Range.{Within}
 use Rattle.voice.specs.Input.{frequencyOf, gainsOf, cleaned}
 use Rattle.voice.specs.Voice.{listAt, phasesOk}
 use Rattle.player.specs.inner.Passes.{partialsVoice, phasesAt, partialsOut}

@@ -4,7 +4,7 @@ use mathlib.Core.Bool.{Bool, true}
 use lib.Dec.{T}
 use lib.Ieee.{Float, binary32, add, sub, ofBits}
 use lib.Ieee.Fits.{add-fits}
-use Rattle.float.specs.Range.{Within}
+use Rattle.float.specs.inner.Range.{Within}
 use Rattle.float.proofs.Fraction.{fraction-below, fraction-over, not-lt, one}
 use Rattle.player.proofs.RangeLaws.{sum-up-to, sum-ok}
 use Rattle.player.proofs.partials.phase.advance.Statement.{statement}

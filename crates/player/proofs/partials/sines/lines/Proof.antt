@@ -5,7 +5,7 @@ use native.Mathlib.Omega.{arith}
 use mathlib.Core.Path.{_≡_, refl}
 use lib.ListN.{length, getD, length-set}
 use lib.Ieee.{nan}
-use Rattle.voice.specs.Lists.{Filled}
+use Rattle.player.specs.inner.Columns.{Filled}
 use Rattle.player.specs.inner.Sines.{indexOf, startOf, riseOf, Cell}
 use Rattle.player.proofs.Waves.{start-is, rise-is}
 use Rattle.player.proofs.ColumnLaws.{filled-none, filled-again, filled-full}

@@ -6,7 +6,7 @@ use mathlib.Core.Path.{_≡_, refl, sym, ap, subst}
 use lib.Dec.{T}
 use lib.ListN.{length, getD, length-set}
 use lib.Ieee.{Float, nan, binary32, ofBits, fits, sub}
-use Rattle.voice.specs.Lists.{Filled}
+use Rattle.player.specs.inner.Columns.{Filled}
 use Rattle.player.specs.Phase.{Phase}
 use Rattle.filters.specs.Wave.{placeOf, restOf}
 use Rattle.player.specs.inner.Sines.{cellFloat, Cell, AllCells}

@@ -5,7 +5,7 @@ use native.Mathlib.Omega.{arith}
 use mathlib.Core.Path.{_≡_, refl, ap}
 use lib.ListN.{length, getD, length-set}
 use lib.Ieee.{Float, nan, ofBits}
-use Rattle.voice.specs.Lists.{Filled}
+use Rattle.player.specs.inner.Columns.{Filled}
 use Rattle.player.specs.inner.Sines.{lineAt}
 use Rattle.player.proofs.ColumnLaws.{Kept, filled-none, filled-again, filled-full, kept-all, kept-again}
 use Rattle.player.proofs.partials.sines.values.Statement.{statement}

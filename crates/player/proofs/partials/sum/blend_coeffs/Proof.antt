@@ -5,7 +5,8 @@ use native.Mathlib.Omega.{arith}
 use lib.ListN.{getD}
 use lib.Ieee.{nan, ofBits}
 use Rattle.float.specs.F32.{_⊕_, _⊗_, nearest}
-use Rattle.voice.specs.Lists.{Filled, steps}
+use Rattle.player.specs.inner.Columns.{Filled}
+use Rattle.voice.specs.Lists.{steps}
 use Rattle.voice.proofs.Loops.{steps-again}
 use Rattle.player.proofs.ColumnLaws.{filled-as}
 use lib.Ieee.{round}

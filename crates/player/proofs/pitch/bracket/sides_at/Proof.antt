@@ -1,6 +1,6 @@
 -- `sides_at` meets its contract.
 use mathlib.Core.Path.{sym, ap, _∙_, subst}
-use Rattle.float.specs.Range.{Within}
+use Rattle.float.specs.inner.Range.{Within}
 use Rattle.player.specs.Bracket.{sidesOf, SidesIn}
 use Rattle.player.specs.declared.pitch.bracket.Sides.{Sides}
 use borrow.Author.Needs.{needs}

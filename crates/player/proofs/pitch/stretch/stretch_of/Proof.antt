@@ -2,7 +2,7 @@
 use mathlib.Core.Path.{sym, subst}
 use lib.Dec.{T}
 use lib.Ieee.{Float}
-use Rattle.float.specs.Range.{Within}
+use Rattle.float.specs.inner.Range.{Within}
 use Rattle.player.proofs.RangeLaws.{stretch-ok-within}
 use borrow.Author.Needs.{needs}
 use Rattle.player.proofs.pitch.stretch.stretch_of.Statement.{statement}

@@ -2,45 +2,37 @@ use mathlib.Core.Path.{refl}
 use Rattle.table.specs.inner.Baseline.{verdictFrom}
 use Rattle.table.specs.Span.{agree}
 use borrow.Author.Needs.{needs}
-use Rattle.table.proofs.read.conclude.Statement.{statement}
-use Rattle.table.proofs.read.conclude.Tie as tie
+use Rattle.table.proofs.span.conclude.Statement.{statement}
+use Rattle.table.proofs.span.conclude.Tie as tie
 
--- src/read.rt:30:26
 enum-known-j : tie.Need-enum-known-j
 enum-known-j c = search needs
 
--- src/read.rt:31:28
 enum-told : tie.Need-enum-told
 enum-told c = search needs
 
--- src/read.rt:32:30
 enum-told-2 : tie.Need-enum-told-2
 enum-told-2 c = search needs
 
--- src/read.rt:33:33
 enum-told-3 : tie.Need-enum-told-3
 enum-told-3 c = search needs
 
--- src/read.rt:26:1
 returns : tie.Need-returns
 unfolding verdictFrom agree
 returns c =
     let b1 = c .before in
     rw (b1 .j .given .1) refl
 
--- src/read.rt:26:1
 returns-2 : tie.Need-returns-2
 unfolding verdictFrom agree
 returns-2 c =
     rw (c .enum-told .given .1) refl
 
--- src/read.rt:26:1
 returns-3 : tie.Need-returns-3
 unfolding verdictFrom agree
 returns-3 c =
     rw (c .enum-told2 .given .1) refl
 
--- src/read.rt:26:1
 returns-4 : tie.Need-returns-4
 unfolding verdictFrom agree
 returns-4 c =

@@ -1,17 +1,10 @@
 -- Ranges of floats. A finite float is the fraction `num x` / `den x` of whole numbers, with a sign; a bound is a fraction too.
 use Prim.Native.Nat.{ℕ, _*_, _≤_, _<_}
-use mathlib.Core.Bool.{Bool, true, false}
 use lib.Dec.{T}
-use lib.Ieee.{Float, nan, inf, fin}
+use lib.Ieee.{Float}
 use lib.Ieee.Scale.{finite}
 use lib.Ieee.Positive.{num, den}
-
--- finite and with no sign: 0 is, -0 is not
-abbrev pub plain : Float → Bool
-plain nan = false
-plain (inf s) = false
-plain (fin true m e) = false
-plain (fin false m e) = true
+pub use Rattle.float.specs.Sqrt.{plain}
 
 -- finite, with no sign, and at most a / c
 pub record Within (a c : ℕ) (x : Float) : Type 0 where
