@@ -6,13 +6,13 @@ cd "$(dirname "$0")/.."
 work=target/bench-inner
 rm -rf "$work"
 mkdir -p "$work/crates/probe/src"
-for c in float wire wave_table filters voice player; do
+for c in float wave_table filters voice player; do
     mkdir -p "$work/crates/$c"
     cp -r "crates/$c/src" "crates/$c/specs" "crates/$c/proofs" "$work/crates/$c/"
 done
 sed -i 's/^mod /pub mod /' "$work/crates/filters/src/lib.rt" "$work/crates/player/src/lib.rt"
 cp bench/probe.rt.txt "$work/crates/probe/src/lib.rt"
-{ grep -E '^(float|wire|wave_table|filters|voice|player):' crates.txt; echo 'probe: player voice filters wave_table float wire'; } > "$work/crates.txt"
+{ grep -E '^(float|wave_table|filters|voice|player):' crates.txt; echo 'probe: player voice filters wave_table float'; } > "$work/crates.txt"
 (cd "$work" && rt staticlib probe > build.log 2>&1) || { tail -5 "$work/build.log"; exit 1; }
 rustc -O --edition 2021 -o "$work/inner" bench/inner.rs -L "$work/target/staticlib" -l static=probe
 "$work/inner"

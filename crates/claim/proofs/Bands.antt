@@ -2,7 +2,7 @@
 use mathlib.Core.Path.{_≡_, refl, ap, sym, _∙_}
 use mathlib.Core.Logic.{⊎-elim}
 use mathlib.Core.List.{List, [], _∷_, _++_, append-assoc, append-nil}
-use mathlib.Core.Bool.{Bool, true, false, _||_}
+use mathlib.Core.Bool.{Bool, true, false, _||_, cond}
 use Prim.Native.Nat.{ℕ, zero, suc, _+_, _≤_, _<_}
 use native.Mathlib.Nat.{eq-or-lt-of-le, add-zero, zero-add}
 use native.Mathlib.Numerals.{add-one}
@@ -12,7 +12,6 @@ use lib.Seq.{ext-getD, getD-append-seam}
 use lib.Dec.{eqb}
 use lib.Ieee.{Float}
 use borrow.Author.Tests.{eq-eqb, ne-eqb}
-use Rattle.wire.specs.Parse.{pick}
 use Rattle.table.specs.declared.desk.Kind.{Kind}
 use Rattle.table.specs.Table.{PitchEntry}
 use Rattle.table.specs.Desk.{bandCount}
@@ -33,7 +32,7 @@ abbrev liveTick : List ℕ → List Float → Float → ℕ → List Float → L
 liveTick live lists x l ms = withMemory ms (getD live l 0) (tickOf (memoryAt ms (getD live l 0)) x (bandAt lists (getD live l 0)) .state)
 
 abbrev pub bandTick : Bool → List Float → Float → List Float → ℕ → BiquadState
-bandTick live lists x ms b = pick live (tickOf (memoryAt ms b) x (bandAt lists b) .state) (memoryAt ms b)
+bandTick live lists x ms b = cond live (tickOf (memoryAt ms b) x (bandAt lists b) .state) (memoryAt ms b)
 
 module _ (k : Kind) (es : List PitchEntry) where
   -- ms with the turn of the first b bands over
@@ -66,9 +65,9 @@ module _ (k : Kind) (es : List PitchEntry) where
       above = λ i l. T .above i (omega arith);
     }
 
-    by-test : (b : ℕ) (rest : List ℕ) (u : Bool) → b < 16 → isLive k es b ≡ u → live ≡ (liveBands k es b ++ pick u (b ∷ []) []) ++ rest
+    by-test : (b : ℕ) (rest : List ℕ) (u : Bool) → b < 16 → isLive k es b ≡ u → live ≡ (liveBands k es b ++ cond u (b ∷ []) []) ++ rest
         → ((rest : List ℕ) → live ≡ liveBands k es b ++ rest → BandsTurned lists x ms b (steps (liveTick live lists x) ms (length (liveBands k es b))))
-        → BandsTurned lists x ms (suc b) (steps (liveTick live lists x) ms (length (liveBands k es b ++ pick u (b ∷ []) [])))
+        → BandsTurned lists x ms (suc b) (steps (liveTick live lists x) ms (length (liveBands k es b ++ cond u (b ∷ []) [])))
     unfolding steps
     by-test b rest true l t e h =
         let d : live ≡ liveBands k es b ++ (b ∷ rest) = e ∙ append-assoc (liveBands k es b) (b ∷ []) rest in
@@ -98,12 +97,12 @@ module _ (k : Kind) (es : List PitchEntry) where
   isIn-append n (x ∷ a) b = rw (isIn-append n a b) (sym (or-assoc (eqb n x) (isIn n a) (isIn n b)))
 
   -- one that is put at the end or not, and another number
-  isIn-other : (n c : ℕ) (u : Bool) → (n ≡ c → ⊥) → isIn n (pick u (c ∷ []) []) ≡ false
+  isIn-other : (n c : ℕ) (u : Bool) → (n ≡ c → ⊥) → isIn n (cond u (c ∷ []) []) ≡ false
   unfolding isIn
   isIn-other n c true h = rw (ne-eqb n c h)
   isIn-other n c false h = refl
 
-  isIn-this : (n : ℕ) (u : Bool) → isIn n (pick u (n ∷ []) []) ≡ u
+  isIn-this : (n : ℕ) (u : Bool) → isIn n (cond u (n ∷ []) []) ≡ u
   unfolding isIn
   isIn-this n true = rw (eq-eqb n n refl)
   isIn-this n false = refl
@@ -133,7 +132,7 @@ length-tick b x live (c ∷ cs) [] = refl
 length-tick b x live (c ∷ cs) (s ∷ ss) = ap suc (length-tick (b + 1) x live cs ss)
 
 tick-at : (b : ℕ) (x : Float) (live : List ℕ) (cs : List BiquadCoeffs) (ss : List BiquadState) (i : ℕ) → i < length cs → i < length ss
-    → getD (tick b x live cs ss) i cleared ≡ pick (isIn (b + i) live) (tickOf (getD ss i cleared) x (getD cs i zeroCoeffs) .state) (getD ss i cleared)
+    → getD (tick b x live cs ss) i cleared ≡ cond (isIn (b + i) live) (tickOf (getD ss i cleared) x (getD cs i zeroCoeffs) .state) (getD ss i cleared)
 unfolding tick
 tick-at b x live [] ss i h l = absurd (omega arith)
 tick-at b x live (c ∷ cs) [] i h l = absurd (omega arith)
@@ -144,7 +143,7 @@ tick-at b x live (c ∷ cs) (s ∷ ss) (suc i) h l =
 
 -- LAW: n memories in which each band had its turn are the machine's
 pub tick-is : (x : Float) (live : List ℕ) (cs : List BiquadCoeffs) (f g : ℕ → BiquadState) (n : ℕ) → length cs ≡ n
-    → ((i : ℕ) → i < n → g i ≡ pick (isIn i live) (tickOf (f i) x (getD cs i zeroCoeffs) .state) (f i)) → upTo g n ≡ tick 0 x live cs (upTo f n)
+    → ((i : ℕ) → i < n → g i ≡ cond (isIn i live) (tickOf (f i) x (getD cs i zeroCoeffs) .state) (f i)) → upTo g n ≡ tick 0 x live cs (upTo f n)
 tick-is x live cs f g n m h =
     let p = length-upTo g n in
     let q = length-upTo f n in

@@ -2,14 +2,13 @@
 -- Assumes nothing.
 use mathlib.Core.Path.{_≡_, refl, ap, sym, _∙_}
 use mathlib.Core.List.{List, [], _∷_, _++_, map}
-use mathlib.Core.Bool.{Bool, true, false}
+use mathlib.Core.Bool.{Bool, true, false, cond}
 use Prim.Native.Nat.{ℕ, zero, suc, _+_, _≤_, _<_}
 use native.Mathlib.Omega.{arith}
 use lib.ListN.{length, take, getD, replicate, length-map}
 use lib.Dec.{eqb}
 use lib.Ieee.{Float}
 use borrow.Author.Tests.{ne-eqb}
-use Rattle.wire.specs.Parse.{pick}
 use Rattle.table.specs.declared.desk.Kind.{Kind}
 use Rattle.table.specs.Table.{PitchEntry}
 use Rattle.table.specs.Desk.{bandCount}
@@ -52,7 +51,7 @@ take-advanced f0 stretch inv k (suc n) (p ∷ l) =
     rw (← e) (ap (λ t. advanceOf p (stepOf (k + 1) f0 stretch inv) ∷ t) (take-advanced f0 stretch inv (suc k) n l))
 
 -- the noise number: it steps where the list of live bands is not empty
-noise-next : (live : List ℕ) (g : Rng) → pick (eqb (length live) 0) g (nextBipolar g .rng) .state ≡ noiseNext live (g .state)
+noise-next : (live : List ℕ) (g : Rng) → cond (eqb (length live) 0) g (nextBipolar g .rng) .state ≡ noiseNext live (g .state)
 noise-next [] g = refl
 noise-next (b ∷ live) g = rw (ne-eqb (suc (length live)) 0 (λ e. omega arith))
 
@@ -63,7 +62,7 @@ by-entries : (vs : List PitchEntry) (pitch : PitchEntry → Float) (x : Plain) (
       memories = tick 0 (bipolarOf (stepped (look s .noise)) ⊗ unitVariance) (x .live) (x .bands) (look s .memories);
       noise = noiseNext (x .live) (look s .noise);
     })
-    → look (pick (eqb (length vs) 0) s t) ≡ atFrequency (map pitch vs) x f0 (look s)
+    → look (cond (eqb (length vs) 0) s t) ≡ atFrequency (map pitch vs) x f0 (look s)
 by-entries [] pitch x f0 look s t h = refl
 by-entries (v ∷ vs) pitch x f0 look s t h = rw (ne-eqb (suc (length vs)) 0 (λ e. omega arith)) (h (omega arith))
 
@@ -93,9 +92,9 @@ moved-with v s t f0 = refl
 pub record Sized (s : State) : Type 0 where
   pub places : length (s .memories) ≡ 32
 
-pick-sized : (b : Bool) (s t : State) → Sized s → Sized t → Sized (pick b s t)
-pick-sized true s t h k = h
-pick-sized false s t h k = k
+cond-sized : (b : Bool) (s t : State) → Sized s → Sized t → Sized (cond b s t)
+cond-sized true s t h k = h
+cond-sized false s t h k = k
 
 steps-length : (f : ℕ → List Float → List Float) → ((i : ℕ) (l : List Float) → length (f i l) ≡ length l) → (l : List Float) (n : ℕ) → length (steps f l n) ≡ length l
 unfolding steps
@@ -105,7 +104,7 @@ steps-length f h l (suc n) = h n (steps f l n) ∙ steps-length f h l n
 moved-sized : (v : Voice) (f0 : Float) (s : State) → Sized s → Sized (moved v f0 s)
 unfolding moved movedMemories
 moved-sized v f0 s h =
-    pick-sized (eqb (v .set .count) 0) s _ h (record { places = steps-length _ (λ l ms. length-with ms _ _) (s .memories) (v .set .«live_count») ∙ h .places })
+    cond-sized (eqb (v .set .count) 0) s _ h (record { places = steps-length _ (λ l ms. length-with ms _ _) (s .memories) (v .set .«live_count») ∙ h .places })
 
 stateAt-sized : (v : Voice) (freq : ℕ → Float) (n : ℕ) → Sized (v .state) → Sized (stateAt v freq n)
 unfolding stateAt steps

@@ -11,7 +11,6 @@ use lib.Ieee.{Float, nan, binary32, round, le, lt, eq, fits}
 use lib.Ieee.Fits.{round-fits, cond-fits}
 use lib.Ieee.Scale.{finite}
 use borrow.Author.Tests.{eqb-false}
-use Rattle.wire.specs.Parse.{pick}
 use Rattle.float.specs.inner.Range.{Within}
 use Rattle.float.specs.F32.{nearest}
 use Rattle.player.specs.Phase.{Step, advanceOf}
@@ -74,9 +73,9 @@ ok-mapTo f k (suc n) zero (p ∷ l) h g o = rw add-zero at (g p o)
 ok-mapTo f k (suc n) (suc i) (p ∷ l) h g o = ok-mapTo f (suc k) n i l (omega arith) (λ q r. rw (suc-add k i, ← add-suc k i) (g q r)) o
 
 -- by a test: the phases of one of two states pass
-pick-ok : (b : Bool) (s t : State) (m : ℕ) → (b ≡ true → phasesOk (s .phases) m ≡ true) → (b ≡ false → phasesOk (t .phases) m ≡ true) → phasesOk (pick b s t .phases) m ≡ true
-pick-ok true s t m g h = g refl
-pick-ok false s t m g h = h refl
+cond-ok : (b : Bool) (s t : State) (m : ℕ) → (b ≡ true → phasesOk (s .phases) m ≡ true) → (b ≡ false → phasesOk (t .phases) m ≡ true) → phasesOk (cond b s t .phases) m ≡ true
+cond-ok true s t m g h = g refl
+cond-ok false s t m g h = h refl
 
 module _ (v : Voice) (E : EntriesFit (v .set) (v .lists)) (W : VoiceF32 v) where
   step-ok : (f0 : Float) (i : ℕ) → 0 < v .set .count → Within 20000 1 f0 → T (fits binary32 f0) → i < v .set .m → Step (stepAt v f0 i)
@@ -98,7 +97,7 @@ module _ (v : Voice) (E : EntriesFit (v .set) (v .lists)) (W : VoiceF32 v) where
   pub moved-ok : (f0 : Float) (s : State) → Within 20000 1 f0 → T (fits binary32 f0) → phasesOk (s .phases) (v .set .m) ≡ true → phasesOk (moved v f0 s .phases) (v .set .m) ≡ true
   unfolding moved
   moved-ok f0 s F F32 h =
-      pick-ok (eqb (v .set .count) 0) s _ (v .set .m) (λ e. h) (λ e. movedPhases-ok f0 (s .phases) (pos-of (v .set .count) (eqb-false (v .set .count) 0 e)) F F32 h)
+      cond-ok (eqb (v .set .count) 0) s _ (v .set .m) (λ e. h) (λ e. movedPhases-ok f0 (s .phases) (pos-of (v .set .count) (eqb-false (v .set .count) 0 e)) F F32 h)
     where
       pos-of : (n : ℕ) → (n ≡ 0 → ⊥) → 0 < n
       pos-of zero h = absurd (h refl)
@@ -156,18 +155,18 @@ first-ok m h = at-every (λ i. phaseOk (getD (firstState .phases) i nan)) m (λ 
 
 -- as it is played, a voice has as many phases and entries as it has
 ticking-phases : (v : Voice) → ticking v .set .m ≡ v .set .m
-ticking-phases v = pick-both (eqb (v .set .blend) 0)
+ticking-phases v = cond-both (eqb (v .set .blend) 0)
   where
-    pick-both : (b : Bool) → pick b (allLive (v .set)) (v .set) .m ≡ v .set .m
-    pick-both true = refl
-    pick-both false = refl
+    cond-both : (b : Bool) → cond b (allLive (v .set)) (v .set) .m ≡ v .set .m
+    cond-both true = refl
+    cond-both false = refl
 
 ticking-32 : (v : Voice) → VoiceF32 v → VoiceF32 (ticking v)
-ticking-32 v W = pick-both (eqb (v .set .blend) 0)
+ticking-32 v W = cond-both (eqb (v .set .blend) 0)
   where
-    pick-both : (b : Bool) → VoiceF32 (voiceOf (pick b (allLive (v .set)) (v .set)) (v .lists) (v .partials) (v .noise) (v .state))
-    pick-both true = record { pitches32 = W .pitches32; stretches32 = W .stretches32 }
-    pick-both false = W
+    cond-both : (b : Bool) → VoiceF32 (voiceOf (cond b (allLive (v .set)) (v .set)) (v .lists) (v .partials) (v .noise) (v .state))
+    cond-both true = record { pitches32 = W .pitches32; stretches32 = W .stretches32 }
+    cond-both false = W
 
 -- LAW: a voice that keeps the rules keeps them after a call
 pub rules-kept : (v : Voice) (c : VoiceCall) → VoiceF32 v → keepsRules v ≡ true → keepsRules (after v c) ≡ true

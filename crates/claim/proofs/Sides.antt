@@ -1,13 +1,12 @@
 -- The two sides of a frequency: both are entries, the share is from 0 to 1, and the stretch between them is from 0 to 8. Assumes nothing.
 use mathlib.Core.Path.{_≡_, refl, sym}
 use mathlib.Core.List.{List}
-use mathlib.Core.Bool.{Bool, true, false}
+use mathlib.Core.Bool.{Bool, true, false, cond}
 use Prim.Native.Nat.{ℕ, zero, suc, _-_, _≤_, _<_}
 use native.Mathlib.Omega.{arith}
 use lib.ListN.{getD}
 use lib.Dec.{T, lit≤}
 use lib.Ieee.{Float, nan, binary32, round, le, fits}
-use Rattle.wire.specs.Parse.{pick}
 use Rattle.float.specs.inner.Range.{plain, Within}
 use Rattle.float.proofs.Finite.{shown}
 use Rattle.float.specs.F32.{nearest}
@@ -30,7 +29,7 @@ module _ (l : List Float) (f0 : Float) where
   unfolding bracketOf
   sides-in n h = go (le f0 (getD l 0 nan)) (le (getD l (n - 1) nan) f0)
     where
-      go : (a b : Bool) → SidesIn n (sidesOf (pick a (One 0) (pick b (One (n - 1)) (neighbours l f0 (notAbove l f0 (n - 1))))))
+      go : (a b : Bool) → SidesIn n (sidesOf (cond a (One 0) (cond b (One (n - 1)) (neighbours l f0 (notAbove l f0 (n - 1))))))
       go true b = record { low = h; high = h }
       go false true = record { low = omega arith; high = omega arith }
       go false false = neighbours-in n _ h (notAbove-in l f0 (n - 1))
@@ -58,7 +57,7 @@ module _ (l : List Float) (f0 : Float) where
     unfolding bracketOf
     sides-share = go (le f0 (getD l 0 nan)) (le (getD l (n - 1) nan) f0) refl
       where
-        go : (a b : Bool) → le (getD l (n - 1) nan) f0 ≡ b → Within 1 1 (sidesOf (pick a (One 0) (pick b (One (n - 1)) (neighbours l f0 (notAbove l f0 (n - 1))))) .t)
+        go : (a b : Bool) → le (getD l (n - 1) nan) f0 ≡ b → Within 1 1 (sidesOf (cond a (One 0) (cond b (One (n - 1)) (neighbours l f0 (notAbove l f0 (n - 1))))) .t)
         go true b e = zero-share
         go false true e = zero-share
         go false false e = neighbours-share (notAbove l f0 (n - 1)) refl e

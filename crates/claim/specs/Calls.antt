@@ -61,7 +61,8 @@ run v (c ∷ cs) = run (after v c) cs
 -- The making stands by because no voice does: a kind of call that is judged by what the voice was made of has to ask the making.
 -- None of these three does.
 unfoldable pub fedBy : Making → VoiceCall → List Event
-fedBy m (playing p) = accepted (callQuestion (callOf p) (outLength p)) (upTo (λ i. frequency (frequencyAt (callOf p) 0 i)) (p .shape .samples)) []
+fedBy m (playing p) =
+    accepted (callQuestion (callOf p) (outLength p)) (upTo (λ i. frequency (frequencyAt (callOf p) 0 i)) (p .shape .samples)) []
 fedBy m resetting = reset ∷ []
 fedBy m (reseeding n) = seed n ∷ []
 

@@ -2,11 +2,10 @@
 -- It takes entries, rate and band coefficients from a making's arguments, never from a voice. Single and blend share it.
 use Prim.Native.Nat.{ℕ, _+_}
 use mathlib.Core.List.{List, [], _∷_, map}
-use mathlib.Core.Bool.{Bool, false, _||_}
+use mathlib.Core.Bool.{Bool, false, _||_, cond}
 use lib.ListN.{length, replicate}
 use lib.Dec.{eqb}
 use lib.Ieee.{Float}
-use Rattle.wire.specs.Parse.{pick}
 use Rattle.table.specs.declared.desk.Kind.{Kind}
 use Rattle.table.specs.Table.{PitchEntry}
 use Rattle.table.specs.Decode.{decode, entriesOf}
@@ -79,7 +78,7 @@ isIn n (x ∷ l) = eqb n x || isIn n l
 unfoldable pub tick : ℕ → Float → List ℕ → List BiquadCoeffs → List BiquadState → List BiquadState
 tick b x live [] ss = ss
 tick b x live (c ∷ cs) [] = []
-tick b x live (c ∷ cs) (s ∷ ss) = pick (isIn b live) (tickOf s x c .state) s ∷ tick (b + 1) x live cs ss
+tick b x live (c ∷ cs) (s ∷ ss) = cond (isIn b live) (tickOf s x c .state) s ∷ tick (b + 1) x live cs ss
 
 -- the stretch at a frequency
 abbrev pub stretchOf : Plain → Float → Float

@@ -15,10 +15,10 @@ use lib.Ieee.Order.{round-mono}
 use lib.Ieee.Positive.{num, den, den-pos, first-pos}
 use Rattle.float.specs.inner.Range.{plain, Within}
 use Rattle.float.proofs.Within.{Holds, value-within, add-within, mul-within, div-within, sub-within, sub-is, le→cross, fits-holds, fitting}
-use Rattle.float.specs.inner.Range.{UpTo}
+use Rattle.float.specs.inner.Range.{AtMost}
 use Rattle.float.specs.Lerp.{lerp}
 
-pub up-to-self : (x : Float) → T (plain x) → UpTo x x
+pub up-to-self : (x : Float) → T (plain x) → AtMost x x
 up-to-self x p = record { plain-is = p; upper = le-refl (num x * den x) }
 
 -- ---- which of two values is the larger
@@ -48,9 +48,9 @@ unfolding round
 round-neg f a c = units-neg f _ _
 
 -- x - y for x < y is -(y - x)
-pick-neg : (f : Format) (a b c : ℕ) → a < b → sum f false a true b c ≡ round f true (b - a) c
+cond-neg : (f : Format) (a b c : ℕ) → a < b → sum f false a true b c ≡ round f true (b - a) c
 unfolding sum
-pick-neg f a b c h = go (ltb a b) (lt→ltb a b h)
+cond-neg f a b c h = go (ltb a b) (lt→ltb a b h)
   where
     go : (t : Bool) → T t → cond t (round f true (b - a) c) (round f false (a - b) c) ≡ round f true (b - a) c
     go true k = refl
@@ -64,7 +64,7 @@ sub-lt f (fin true m e) y p q h = absurd p
 sub-lt f (fin false m e) nan p q h = absurd q
 sub-lt f (fin false m e) (inf t) p q h = absurd q
 sub-lt f (fin false m e) (fin true n d) p q h = absurd q
-sub-lt f (fin false m e) (fin false n d) p q h = pick-neg f (m * up e * down d) (n * up d * down e) (down e * down d) h
+sub-lt f (fin false m e) (fin false n d) p q h = cond-neg f (m * up e * down d) (n * up d * down e) (down e * down d) h
 
 pub sub-swap : (f : Format) (x y : Float) → T (plain x) → T (plain y) → num x * den y < num y * den x → sub f x y ≡ neg (sub f y x)
 sub-swap f x y p q h =
@@ -112,8 +112,8 @@ lerp-within a b lo hi t F v w h L H S = go (le-or-lt (num lo * den hi) (num hi *
         let u = sub binary32 lo hi in
         let D = den-pos lo in
         let self : Holds binary32 (num lo) (den lo) = fits-holds binary32 lo F (L .plain-is) in
-        let U : UpTo lo u = sub-within binary32 lo hi (num lo) (den lo) (num lo) (den lo) D D self (up-to-self lo (L .plain-is)) (H .plain-is) (le-of-lt l) (le-refl (num lo * den lo)) in
-        let W : UpTo lo (mul binary32 t u) = mul-within binary32 t u 1 1 (num lo) (den lo) (num lo) (den lo) (lit< tt) D D self S U (one-of (num lo) (den lo)) in
+        let U : AtMost lo u = sub-within binary32 lo hi (num lo) (den lo) (num lo) (den lo) D D self (up-to-self lo (L .plain-is)) (H .plain-is) (le-of-lt l) (le-refl (num lo * den lo)) in
+        let W : AtMost lo (mul binary32 t u) = mul-within binary32 t u 1 1 (num lo) (den lo) (num lo) (den lo) (lit< tt) D D self S U (one-of (num lo) (den lo)) in
         let e : lerp lo hi t ≡ sub binary32 lo (mul binary32 t u) =
         ap (λ (z : Float). add binary32 lo (mul binary32 t z)) (sub-swap binary32 hi lo (H .plain-is) (L .plain-is) l)
         ∙ ap (λ (z : Float). add binary32 lo z) (mul-neg binary32 t u (S .plain-is) (U .plain-is))
@@ -158,7 +158,7 @@ gap H dh U L dl u c C p q h =
     one-at-least : (a b : ℕ) → b < a → 1 ≤ a - b
     one-at-least a b h = omega arith
 
-pub sub-up-to : (x y : Float) → T (fits binary32 x) → T (plain x) → T (plain y) → num y * den x ≤ num x * den y → UpTo x (sub binary32 x y)
+pub sub-up-to : (x y : Float) → T (fits binary32 x) → T (plain x) → T (plain y) → num y * den x ≤ num x * den y → AtMost x (sub binary32 x y)
 sub-up-to x y t p q l = sub-within binary32 x y (num x) (den x) (num x) (den x) (den-pos x) (den-pos x) (fits-holds binary32 x t p) (up-to-self x p) q l (le-refl (num x * den x))
 
 pub sub-positive : (x y : Float) → T (fits binary32 x) → T (fits binary32 y) → T (plain x) → T (plain y) → num y * den x < num x * den y → 0 < num (sub binary32 x y)
@@ -196,8 +196,8 @@ ratio-within lo f0 hi s t u p q r l h =
     let A = sub binary32 f0 lo in
     let B = sub binary32 hi lo in
     let lh : num lo * den hi < num hi * den lo = through-lt (num lo) (den lo) (num f0) (den f0) (num hi) (den hi) (den-pos f0) (den-pos lo) (den-pos hi) l h in
-    let pa : UpTo f0 A = sub-up-to f0 lo t q p l in
-    let pb : UpTo hi B = sub-up-to hi lo u r p (le-of-lt lh) in
+    let pa : AtMost f0 A = sub-up-to f0 lo t q p l in
+    let pb : AtMost hi B = sub-up-to hi lo u r p (le-of-lt lh) in
     let N : 0 < num B = sub-positive hi lo u s r p lh in
     let m : T (le A B) =
     subst (λ (z : Float). T (le z B)) (sym (sub-is binary32 f0 lo q p l))

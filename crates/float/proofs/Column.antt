@@ -8,7 +8,7 @@ use lib.ListN.{length, getD, set, length-set}
 use lib.Seq.{getD-set-same, getD-set-other, ext-getD}
 use lib.Ieee.{Float, nan}
 use Rattle.float.specs.Sqrt.{sqrt}
-use Rattle.float.specs.Roots.{rooted, IsRoot, Kept, Upto, RootsIfKept}
+use Rattle.float.specs.Roots.{rooted, IsRoot, Kept, DoneUpTo, RootsIfKept}
 use Rattle.float.proofs.Bounds.{le-or-lt}
 
 -- ---- the list by its places
@@ -61,13 +61,13 @@ rooted-least n m k xs rs h (inr e) (inr b) = ap (λ (z : ℕ). rooted z xs rs) (
 
 -- ---- a loop that fills the places in turn
 module _ (P : Float → Float → Type 0) (xs before : List Float) where
-  pub upto-none : Upto P 0 xs before before
+  pub upto-none : DoneUpTo P 0 xs before before
   upto-none = record { same = refl; done = λ (i : ℕ) (h : i < 0). absurd (never i h); rest = λ (i : ℕ) (h : 0 ≤ i). refl }
     where
       never : (i : ℕ) → i < 0 → ⊥
       never i h = omega arith
 
-  pub upto-more : (i : ℕ) (rs : List Float) (y : Float) → i < length rs → Upto P i xs before rs → P (getD xs i nan) y → Upto P (i + 1) xs before (set rs i y)
+  pub upto-more : (i : ℕ) (rs : List Float) (y : Float) → i < length rs → DoneUpTo P i xs before rs → P (getD xs i nan) y → DoneUpTo P (i + 1) xs before (set rs i y)
   upto-more i rs y l u p = record {
     same = length-set rs i y ∙ u .same;
     done = λ (j : ℕ) (h : j < i + 1). go j h (le-or-lt i j);
@@ -108,15 +108,15 @@ tested-more n xs rs t f i h = go (le-or-lt n i)
     go (inr k) = t i k
 
 -- what was kept where it had to be, and passes the test, are the roots
-pub upto-tested : (n : ℕ) (xs before after : List Float) → Upto Kept n xs before after → RootsIfKept n xs after → Upto IsRoot n xs before after
+pub upto-tested : (n : ℕ) (xs before after : List Float) → DoneUpTo Kept n xs before after → RootsIfKept n xs after → DoneUpTo IsRoot n xs before after
 upto-tested n xs before after u t = record { same = u .same; done = λ (i : ℕ) (h : i < n). t i h (u .done i h); rest = u .rest }
 
 -- what stood in the first n places before does not count
-pub upto-over : (n : ℕ) (xs before between after : List Float) → Upto Kept n xs before between → Upto IsRoot n xs between after → Upto IsRoot n xs before after
+pub upto-over : (n : ℕ) (xs before between after : List Float) → DoneUpTo Kept n xs before between → DoneUpTo IsRoot n xs between after → DoneUpTo IsRoot n xs before after
 upto-over n xs before between after u v = record { same = v .same ∙ u .same; done = v .done; rest = λ (i : ℕ) (h : n ≤ i). v .rest i h ∙ u .rest i h }
 
 -- LAW: a list whose places are so is the one defined
-pub upto-rooted : (n : ℕ) (xs before after : List Float) → n ≤ length xs → n ≤ length before → Upto IsRoot n xs before after → after ≡ rooted n xs before
+pub upto-rooted : (n : ℕ) (xs before after : List Float) → n ≤ length xs → n ≤ length before → DoneUpTo IsRoot n xs before after → after ≡ rooted n xs before
 upto-rooted n xs before after a b u = ext-getD nan after (rooted n xs before) (u .same ∙ sym (length-rooted n xs before)) (λ (i : ℕ) (h : i < length after). go i (le-or-lt n i))
   where
     within : (i n m : ℕ) → i < n → n ≤ m → i < m

@@ -12,7 +12,7 @@ use lib.Ieee.Fits.{up-pos, and-l}
 use lib.Ieee.Positive.{num, positive}
 use lib.Ieee.Scale.{finite}
 use Rattle.float.specs.inner.Range.{plain}
-use Rattle.float.specs.Sqrt.{none, smallest, normal, normalRoot, sqrt, positiveRoot}
+use Rattle.float.specs.Sqrt.{plusZero, smallest, normal, normalRoot, sqrt, positiveRoot}
 use Rattle.float.proofs.Within.{lt→cross}
 use Rattle.float.proofs.Finite.{shown}
 use Rattle.float.proofs.Subnormal.{normal-from}
@@ -32,22 +32,22 @@ zero-right e = mul-one (0 * up e) ∙ zero-mul (up e)
 more-right : (m : ℕ) (e : ℤ) → 0 < suc m * up e * 1
 more-right m e = lt-of-lt-of-le (mul-pos (zero-lt-suc m) (up-pos e)) (le-of-eq (sym (mul-one (suc m * up e))))
 
-not-above : (e : ℤ) → lt none (fin false zero e) ≡ true → ⊥
+not-above : (e : ℤ) → lt plusZero (fin false zero e) ≡ true → ⊥
 unfolding lt
 not-above e h = nothing-below _ (lt-of-lt-of-le (ltb→lt (0 * 1 * down e) (0 * up e * 1) (subst T (sym h) tt)) (le-of-eq (zero-right e)))
 
-is-above : (m : ℕ) (e : ℤ) → lt none (fin false (suc m) e) ≡ true
+is-above : (m : ℕ) (e : ℤ) → lt plusZero (fin false (suc m) e) ≡ true
 unfolding lt
 is-above m e = is-true (ltb (0 * 1 * down e) (suc m * up e * 1)) (lt→ltb (0 * 1 * down e) (suc m * up e * 1) (subst (λ (z : ℕ). z < suc m * up e * 1) (sym (zero-left e)) (more-right m e)))
 
-not-level : (s : Bool) (m : ℕ) (e : ℤ) → eq (fin s (suc m) e) none ≡ true → ⊥
+not-level : (s : Bool) (m : ℕ) (e : ℤ) → eq (fin s (suc m) e) plusZero ≡ true → ⊥
 unfolding eq
 not-level s m e h =
     let a = suc m * up e * 1 in
     let k : a ≡ 0 = eqb→eq a (0 * 1 * down e) (and-l (eqb a (0 * 1 * down e)) (Bool·beq s false || eqb a 0) (subst T (sym h) tt)) ∙ zero-left e in
     lt-irrefl 0 (subst (λ (z : ℕ). 0 < z) k (more-right m e))
 
-is-level : (s : Bool) (e : ℤ) → eq (fin s zero e) none ≡ true
+is-level : (s : Bool) (e : ℤ) → eq (fin s zero e) plusZero ≡ true
 unfolding eq
 is-level s e = ap (λ (z : ℕ). eqb z (0 * 1 * down e) && (Bool·beq s false || eqb z 0)) (zero-right e) ∙ ap (λ (z : ℕ). eqb 0 z && (Bool·beq s false || true)) (zero-left e) ∙ last s
   where
@@ -55,13 +55,13 @@ is-level s e = ap (λ (z : ℕ). eqb z (0 * 1 * down e) && (Bool·beq s false ||
     last true = refl
     last false = refl
 
-apart : (s : Bool) (m : ℕ) (e : ℤ) → eq (fin s (suc m) e) none ≡ false
-apart s m e = is-false (eq (fin s (suc m) e) none) (not-T (eq (fin s (suc m) e) none) (λ t. not-level s m e (is-true (eq (fin s (suc m) e) none) t)))
+apart : (s : Bool) (m : ℕ) (e : ℤ) → eq (fin s (suc m) e) plusZero ≡ false
+apart s m e = is-false (eq (fin s (suc m) e) plusZero) (not-T (eq (fin s (suc m) e) plusZero) (λ t. not-level s m e (is-true (eq (fin s (suc m) e) plusZero) t)))
 
 clash : {A : Type 0} → true ≡ false → A
 clash h = absurd (subst T h tt)
 
-pub sqrt-positive : (x : Float) → lt none x ≡ true → finite x ≡ true → T (positive x) × (sqrt x ≡ positiveRoot x)
+pub sqrt-positive : (x : Float) → lt plusZero x ≡ true → finite x ≡ true → T (positive x) × (sqrt x ≡ positiveRoot x)
 unfolding lt sqrt
 sqrt-positive nan h k = clash (sym k)
 sqrt-positive (inf s) h k = clash (sym k)
@@ -69,21 +69,21 @@ sqrt-positive (fin true m e) h k = clash (sym h)
 sqrt-positive (fin false zero e) h k = absurd (not-above e h)
 sqrt-positive (fin false (suc m) e) h k = (lt→ltb 0 (suc m) (zero-lt-suc m), refl)
 
-pub sqrt-infinite : (x : Float) → lt none x ≡ true → finite x ≡ false → sqrt x ≡ x
+pub sqrt-infinite : (x : Float) → lt plusZero x ≡ true → finite x ≡ false → sqrt x ≡ x
 unfolding lt sqrt
 sqrt-infinite nan h k = clash (sym h)
 sqrt-infinite (inf true) h k = clash (sym h)
 sqrt-infinite (inf false) h k = refl
 sqrt-infinite (fin s m e) h k = clash k
 
-pub sqrt-zero : (x : Float) → eq x none ≡ true → sqrt x ≡ x
+pub sqrt-zero : (x : Float) → eq x plusZero ≡ true → sqrt x ≡ x
 unfolding eq sqrt
 sqrt-zero nan h = refl
 sqrt-zero (inf s) h = clash (sym h)
 sqrt-zero (fin s zero e) h = refl
 sqrt-zero (fin s (suc m) e) h = absurd (not-level s m e h)
 
-pub sqrt-none : (x : Float) → lt none x ≡ false → eq x none ≡ false → sqrt x ≡ nan
+pub sqrt-none : (x : Float) → lt plusZero x ≡ false → eq x plusZero ≡ false → sqrt x ≡ nan
 unfolding lt eq sqrt
 sqrt-none nan h k = refl
 sqrt-none (inf true) h k = refl
@@ -102,14 +102,14 @@ positive-sqrt (fin false zero e) p = absurd p
 positive-sqrt (fin false (suc m) e) p = refl
 
 -- a positive float is no zero, and of the others the root is 0 exactly where they are
-pub positive-apart : (x : Float) → T (positive x) → eq x none ≡ false
+pub positive-apart : (x : Float) → T (positive x) → eq x plusZero ≡ false
 positive-apart nan p = absurd p
 positive-apart (inf s) p = absurd p
 positive-apart (fin true m e) p = absurd p
 positive-apart (fin false zero e) p = absurd p
 positive-apart (fin false (suc m) e) p = apart false m e
 
-pub other-alike : (x : Float) → (T (positive x) → ⊥) → eq (sqrt x) none ≡ eq x none
+pub other-alike : (x : Float) → (T (positive x) → ⊥) → eq (sqrt x) plusZero ≡ eq x plusZero
 unfolding sqrt eq
 other-alike nan p = refl
 other-alike (inf true) p = refl
@@ -141,14 +141,14 @@ positive-between x h k =
     let a = over-positive x smallest (between-finite x h k) tt (shown (le smallest x) h) in
     positive-from x (a .plain-is) (at-least-positive 1 (2 ^ 126) x (lit< tt) a)
 
-positive-above : (x : Float) → T (positive x) → lt none x ≡ true
+positive-above : (x : Float) → T (positive x) → lt plusZero x ≡ true
 positive-above nan p = absurd p
 positive-above (inf s) p = absurd p
 positive-above (fin true m e) p = absurd p
 positive-above (fin false zero e) p = absurd p
 positive-above (fin false (suc m) e) p = is-above m e
 
-pub normal-above : (x : Float) → le smallest x ≡ true → le x largest ≡ true → lt none x ≡ true
+pub normal-above : (x : Float) → le smallest x ≡ true → le x largest ≡ true → lt plusZero x ≡ true
 normal-above x h k = positive-above x (positive-between x h k)
 
 pub sqrt-normal : (x : Float) → le smallest x ≡ true → le x largest ≡ true → T (normal x) × (sqrt x ≡ normalRoot x)

@@ -13,7 +13,7 @@ use lib.Ieee.Exact.{HasValue}
 use lib.Ieee.Order.{transfer}
 use lib.Ieee.Positive.{num, den, den-pos, positive, positive-of-value, value-pos}
 use Rattle.float.specs.inner.Range.{plain, Within, AtLeast}
-use Rattle.float.specs.Sqrt.{none, sqrt}
+use Rattle.float.specs.Sqrt.{plusZero, sqrt}
 use Rattle.float.specs.Nearest.{NearestRoot}
 use Rattle.float.proofs.Within.{value-plain, value-cross, value-within}
 use Rattle.float.proofs.Bounds.{le-or-lt}
@@ -74,10 +74,10 @@ unfolding sqrt
 sqrt-within nan z t f q w = absurd (w .plain-is)
 sqrt-within (inf s) z t f q w = absurd (w .plain-is)
 sqrt-within (fin true m e) z t f q w = absurd (w .plain-is)
-sqrt-within (fin false zero e) z t f q w = record { plain-is = tt; upper = le-trans (le-of-eq (ap (λ (n : ℕ). n * den z) (zero-mul (up e)) ∙ zero-mul (den z))) (none (num z * down e)) }
+sqrt-within (fin false zero e) z t f q w = record { plain-is = tt; upper = le-trans (le-of-eq (ap (λ (n : ℕ). n * den z) (zero-mul (up e)) ∙ zero-mul (den z))) (plusZero (num z * down e)) }
   where
-    none : (n : ℕ) → 0 ≤ n
-    none n = omega arith
+    plusZero : (n : ℕ) → 0 ≤ n
+    plusZero n = omega arith
 sqrt-within (fin false (suc m) e) z t f q w = positive-within (fin false (suc m) e) z t (lt→ltb 0 (suc m) (zero-lt-suc m)) f q w
 
 -- LAW: x at least z * z, and above 0, has a root of at least z
@@ -127,9 +127,9 @@ positive-root x t p =
     some N h (inr l) = l
 
 -- LAW: a root is 0 exactly where its operand is
-pub sqrt-zero-alike : (x : Float) → T (fits binary32 x) → eq (sqrt x) none ≡ eq x none
+pub sqrt-zero-alike : (x : Float) → T (fits binary32 x) → eq (sqrt x) plusZero ≡ eq x plusZero
 sqrt-zero-alike x t = go (positive x) refl
   where
-    go : (b : Bool) → positive x ≡ b → eq (sqrt x) none ≡ eq x none
+    go : (b : Bool) → positive x ≡ b → eq (sqrt x) plusZero ≡ eq x plusZero
     go true e = let p = subst T (sym e) tt in positive-apart (sqrt x) (positive-root x t p) ∙ sym (positive-apart x p)
     go false e = other-alike x (λ (p : T (positive x)). subst T e p)

@@ -7,13 +7,13 @@ use mathlib.Core.Bool.{Bool, true, false, cond}
 use lib.Dec.{T, lit<}
 use lib.Ieee.{Float, nan, inf, fin, binary32, fits, lt, le, toBits, ofBits}
 use lib.Ieee.Bits.{ofBits-toBits}
-use Rattle.float.specs.Sqrt.{none, smallest, scaled, significand, rootBits, normalRoot, sqrt}
+use Rattle.float.specs.Sqrt.{plusZero, smallest, scaled, significand, rootBits, normalRoot, sqrt}
 use Rattle.float.proofs.RootLaws.{nearest-is, significand-small, quartered, is-significand}
 use Rattle.float.proofs.Patterns.{plain-pattern}
 use Rattle.float.proofs.Operands.{largest, normal-above, sqrt-normal}
 
 -- ---- the pattern of a float above 0 has no sign
-pub above-bits : (x : Float) → T (fits binary32 x) → lt none x ≡ true → toBits binary32 x < 2147483648
+pub above-bits : (x : Float) → T (fits binary32 x) → lt plusZero x ≡ true → toBits binary32 x < 2147483648
 unfolding lt toBits
 above-bits nan f h = absurd (subst T (sym h) tt)
 above-bits (inf true) f h = absurd (subst T (sym h) tt)
@@ -64,8 +64,8 @@ faultless b p n h u v e d l k =
 root-from-bits : (x y : Float) → T (fits binary32 y) → toBits binary32 y ≡ rootBits (toBits binary32 x) → y ≡ normalRoot x
 root-from-bits x y f e = sym (ofBits-toBits binary32 y f) ∙ ap (ofBits binary32) e
 
-pub root-by-pattern : (x y : Float) (b p : ℕ) → T (fits binary32 y) → le smallest x ≡ true → le x largest ≡ true → b ≡ cond (lt none x) (toBits binary32 x) 0 → p ≡ cond (lt none y) (toBits binary32 y) 0 → p ≡ rootBits b → y ≡ sqrt x
-root-by-pattern x y b p f h k eb ep e = go (lt none y) ep
+pub root-by-pattern : (x y : Float) (b p : ℕ) → T (fits binary32 y) → le smallest x ≡ true → le x largest ≡ true → b ≡ cond (lt plusZero x) (toBits binary32 x) 0 → p ≡ cond (lt plusZero y) (toBits binary32 y) 0 → p ≡ rootBits b → y ≡ sqrt x
+root-by-pattern x y b p f h k eb ep e = go (lt plusZero y) ep
   where
     bits : b ≡ toBits binary32 x
     bits = eb ∙ ap (λ (t : Bool). cond t (toBits binary32 x) 0) (normal-above x h k)

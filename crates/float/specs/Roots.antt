@@ -24,7 +24,7 @@ abbrev pub Kept : Float → Float → Type 0
 Kept x y = le smallest x ≡ false → y ≡ x
 
 -- `after` is `before`, but for its first n places: there P holds of the x at the place and of what stands there
-pub record Upto (P : Float → Float → Type 0) (n : ℕ) (xs before after : List Float) : Type 0 where
+pub record DoneUpTo (P : Float → Float → Type 0) (n : ℕ) (xs before after : List Float) : Type 0 where
   pub same : length after ≡ length before
   pub done : (i : ℕ) → i < n → P (getD xs i nan) (getD after i nan)
   pub rest : (i : ℕ) → n ≤ i → getD after i nan ≡ getD before i nan

@@ -14,8 +14,8 @@ plain (fin true m e) = false
 plain (fin false m e) = true
 
 -- 0, with no sign
-abbrev pub none : Float
-none = fin false 0 (pos 0)
+abbrev pub plusZero : Float
+plusZero = fin false 0 (pos 0)
 
 -- the smallest normal float, 2 ^ -126
 abbrev pub smallest : Float

@@ -3,13 +3,13 @@ ghost use mathlib.Core.Path.{_≡_};
 ghost use mathlib.Core.Bool.{cond};
 ghost use Prim.Native.Nat.{_<_, _≤_};
 ghost use lib.Ieee.{binary32, toBits, lt};
-ghost use Rattle.float.specs.Sqrt.{none, rootBits};
+ghost use Rattle.float.specs.Sqrt.{plusZero, rootBits};
 ghost use Rattle.float.specs.Roots.{Kept, IsRoot};
 use crate::root::quarter;
 
 // The pattern of x where it is above 0, else 0.
 fn bits_above_zero(x: f32) -> u32
-    ensures { λ r. ⌜ (r ≡ cond (lt none x) (toBits binary32 x) 0) × (r < 2147483648) ⌝ }
+    ensures { λ r. ⌜ (r ≡ cond (lt plusZero x) (toBits binary32 x) 0) × (r < 2147483648) ⌝ }
 {
     if x > 0.0 { f32::to_bits(x) } else { 0 }
 }

@@ -5,7 +5,7 @@ ghost use mathlib.Core.Path.{_≡_};
 ghost use mathlib.Core.Logic.{_⊎_};
 ghost use Prim.Native.Nat.{_≤_};
 ghost use lib.ListN.{length};
-ghost use Rattle.float.specs.Roots.{rooted, Kept, IsRoot, Upto, RootsIfKept};
+ghost use Rattle.float.specs.Roots.{rooted, Kept, IsRoot, DoneUpTo, RootsIfKept};
 use crate::fault::fault;
 use crate::near::near_f32;
 use crate::root::sqrt;
@@ -30,7 +30,7 @@ fn guess(x: f32) -> f32
 
 fn guess_each(roots: &mut [f32], xs: &[f32], n: usize)
     requires { ⌜ (n ≤ length (now roots)) × (n ≤ length (now xs)) ⌝ }
-    ensures { λ _. ⌜ Upto Kept n (now (xs .entry)) (now (roots .entry)) (now (roots .exit)) ⌝ }
+    ensures { λ _. ⌜ DoneUpTo Kept n (now (xs .entry)) (now (roots .entry)) (now (roots .exit)) ⌝ }
 {
     let mut i = 0;
     while i < n {
@@ -55,7 +55,7 @@ fn faults(roots: &[f32], xs: &[f32], n: usize) -> u32
 
 fn each(roots: &mut [f32], xs: &[f32], n: usize)
     requires { ⌜ (n ≤ length (now roots)) × (n ≤ length (now xs)) ⌝ }
-    ensures { λ _. ⌜ Upto IsRoot n (now (xs .entry)) (now (roots .entry)) (now (roots .exit)) ⌝ }
+    ensures { λ _. ⌜ DoneUpTo IsRoot n (now (xs .entry)) (now (roots .entry)) (now (roots .exit)) ⌝ }
 {
     let mut i = 0;
     while i < n {
@@ -67,7 +67,7 @@ fn each(roots: &mut [f32], xs: &[f32], n: usize)
 // The roots by guesses that are tested, and one by one where there is a fault.
 fn each_by_guess(roots: &mut [f32], xs: &[f32], n: usize)
     requires { ⌜ (n ≤ length (now roots)) × (n ≤ length (now xs)) × (n ≤ 16777216) ⌝ }
-    ensures { λ _. ⌜ Upto IsRoot n (now (xs .entry)) (now (roots .entry)) (now (roots .exit)) ⌝ }
+    ensures { λ _. ⌜ DoneUpTo IsRoot n (now (xs .entry)) (now (roots .entry)) (now (roots .exit)) ⌝ }
 {
     guess_each(roots, xs, n);
     if faults(roots, xs, n) == 0 {

@@ -3,11 +3,11 @@
 use Prim.Native.Nat.{ℕ, zero, suc, _+_, _*_}
 use mathlib.Core.Path.{_≡_, refl, ap, _∙_}
 use mathlib.Core.List.{List, [], _∷_}
-use mathlib.Core.Bool.{Bool, true, false, _&&_}
+use mathlib.Core.Bool.{Bool, true, false, _&&_, cond}
 use native.Mathlib.Omega.{arith}
 use lib.ListN.{length}
 use lib.Dec.{leb, eqb}
-use Rattle.wire.specs.Parse.{Refusal, refusal, Parsed, Parser, ok, refused, pick, then, asked, many}
+use Rattle.wire.specs.Parse.{Refusal, refusal, Parsed, Parser, ok, refused, then, asked, many}
 use Rattle.wire.specs.Cursor.{place, part, le16, le32, takeAt, u16, u32, stringOf, string, unexpectedEof, badUtf8}
 use Rattle.wire.specs.Utf8.{utf8}
 use Rattle.table.specs.declared.span.Span.{Span}
@@ -27,7 +27,7 @@ then-n : {A B : Type 0} (p : Parsed A) (f : A → ℕ → Parsed B) → Numbered
 then-n (ok a at) f h g = g a at
 then-n (refused r) f h g = h
 
-field-n : {A : Type 0} (b : Bool) (v : A) (e : ℕ) → Numbered (pick b (ok v e) (refused unexpectedEof))
+field-n : {A : Type 0} (b : Bool) (v : A) (e : ℕ) → Numbered (cond b (ok v e) (refused unexpectedEof))
 field-n true v e = tt
 field-n false v e = λ z. absurd (omega arith)
 
@@ -51,7 +51,7 @@ string-of-n : (n : ℕ) (s : List ℕ) (at : ℕ) → Numbered (stringOf n s at)
 unfolding stringOf
 string-of-n n s at = go (leb (at + n) (length s)) (utf8 (part s at n))
   where
-    go : (b v : Bool) → Numbered (pick b (pick v (ok (place at n) (at + n)) (refused badUtf8)) (refused unexpectedEof))
+    go : (b v : Bool) → Numbered (cond b (cond v (ok (place at n) (at + n)) (refused badUtf8)) (refused unexpectedEof))
     go true true = tt
     go true false = λ z. absurd (omega arith)
     go false v = λ z. absurd (omega arith)
@@ -111,7 +111,7 @@ beside-n Span.Neither i (Span.Both a b) rest h = λ z. absurd (omega arith)
 beside-n (Span.Both x y) i Span.Neither rest h = λ z. absurd (omega arith)
 beside-n (Span.Both x y) i (Span.Both a b) rest h = go (floatEq x a && floatEq y b)
   where
-    go : (t : Bool) → Judged (pick t rest (broken (refusal 7 0 i)))
+    go : (t : Bool) → Judged (cond t rest (broken (refusal 7 0 i)))
     go true = h
     go false = λ z. absurd (omega arith)
 beside-n Span.Lone i Span.Neither rest h = λ z. absurd (omega arith)

@@ -2,12 +2,11 @@
 use Prim.Native.Nat.{ℕ, zero, suc, _+_, _-_, _≤_, _<_, max}
 use mathlib.Core.Path.{_≡_, refl, sym, _∙_}
 use mathlib.Core.List.{List}
-use mathlib.Core.Bool.{Bool, true, false, _||_}
+use mathlib.Core.Bool.{Bool, true, false, _||_, cond}
 use native.Mathlib.Omega.{arith}
 use native.Mathlib.Numerals.{add-one}
 use lib.Dec.{leb, eqb}
 use borrow.Author.Tests.{leb-true, lt-ltb, le-ltb, le-leb, lt-leb}
-use Rattle.wire.specs.Parse.{pick}
 use Rattle.table.specs.declared.entry.EntryView.{EntryView}
 use Rattle.table.specs.declared.error.CoeffTableCodecError.{CoeffTableCodecError}
 use Rattle.table.specs.Answer.{refusalOf}
@@ -47,7 +46,7 @@ pub size-no : (s : List ℕ) (v : EntryView) → 32 < v .«m_partials» → fals
 size-no s v h = rw (partials-are s v, lt-leb (v .«m_partials») 32 h) refl
 
 -- LAW: a search from the top down, at i. It ends where the test holds at i - 1, and else goes on below.
-module _ {A : Type 0} (f : ℕ → A) (test : ℕ → Bool) (found : ℕ → A) (step : (i : ℕ) → f (suc i) ≡ pick (test i) (found (suc i)) (f i)) (n : ℕ) where
+module _ {A : Type 0} (f : ℕ → A) (test : ℕ → Bool) (found : ℕ → A) (step : (i : ℕ) → f (suc i) ≡ cond (test i) (found (suc i)) (f i)) (n : ℕ) where
   down-hit : (i : ℕ) → f i ≡ f n → 0 < i → test (i - 1) ≡ true → found i ≡ f n
   down-hit zero e h t = absurd (omega arith)
   down-hit (suc i) e h t = let q : suc i - 1 ≡ i = omega arith in rw (rw q at t) at (sym (step i) ∙ e)
@@ -66,7 +65,7 @@ module _ (e : PitchEntry) (c n i : ℕ) (so : reach e c i ≡ reach e c n) (h : 
   unfolding reach
   reach-miss t = down-miss (reach e c) (λ i. isNonzero (partialCoeff e c i)) (λ i. i) (λ i. refl) n i so h t
 
-or-pick : (a b : Bool) → a || b ≡ pick a true b
+or-pick : (a b : Bool) → a || b ≡ cond a true b
 or-pick true b = refl
 or-pick false b = refl
 

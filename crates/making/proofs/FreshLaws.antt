@@ -3,7 +3,7 @@ use Prim.Native.Nat.{ℕ, zero, suc, _+_, _-_, _*_, _≤_, _<_}
 use mathlib.Core.Path.{_≡_, refl, ap, sym, subst, _∙_}
 use mathlib.Core.Logic.{_⊎_, inl, inr}
 use mathlib.Core.List.{List, [], _∷_, _++_, map, append-nil}
-use mathlib.Core.Bool.{Bool, true, false, _&&_}
+use mathlib.Core.Bool.{Bool, true, false, _&&_, cond}
 use native.Mathlib.Omega.{arith}
 use native.Mathlib.Nat.{eq-or-lt-of-le, le-of-suc-le-suc}
 use lib.ListN.{length, getD, replicate, length-append, length-map, List·getD-append, getD-replicate}
@@ -12,7 +12,6 @@ use lib.Dec.{T, leb, ltb}
 use lib.Ieee.{Float, nan, inf, fin, round, lt, le, eq}
 use lib.Ieee.Scale.{finite}
 use borrow.Author.Tests.{leb-true, le-leb, lt-ltb}
-use Rattle.wire.specs.Parse.{pick}
 use Rattle.float.proofs.Compare.{finite-not-lt, lt-le}
 use Rattle.table.specs.declared.desk.Kind.{Kind}
 use Rattle.table.specs.Table.{PitchEntry, mPartials, hasChannel, metadataValue}
@@ -102,7 +101,7 @@ unfolding insert
 first-is e x [] h k y m q = let p : e ≡ y = cc in rw (← p) k
 first-is e x (z ∷ l) h k y m q = go (lt (pitch e) (pitch z)) q
   where
-    go : (b : Bool) → pick b (e ∷ z ∷ l) (z ∷ insert e l) ≡ y ∷ m → le (pitch x) (pitch y) ≡ true
+    go : (b : Bool) → cond b (e ∷ z ∷ l) (z ∷ insert e l) ≡ y ∷ m → le (pitch x) (pitch y) ≡ true
     go true p = let w : e ≡ y = cc in rw (← w) k
     go false p = let w : z ≡ y = cc in rw (← w) (ascends-head x z l h)
 
@@ -113,7 +112,7 @@ insert-ascends e (x ∷ l) p a h =
     let w = both-true (pitchOk (pitch x)) (all (λ x. pitchOk (pitch x)) l) a in
     go (lt (pitch e) (pitch x)) refl (w .0) (insert-ascends e l p (w .1) (ascends-tail x l h))
   where
-    go : (b : Bool) → lt (pitch e) (pitch x) ≡ b → pitchOk (pitch x) ≡ true → ascends (insert e l) ≡ true → ascends (pick b (e ∷ x ∷ l) (x ∷ insert e l)) ≡ true
+    go : (b : Bool) → lt (pitch e) (pitch x) ≡ b → pitchOk (pitch x) ≡ true → ascends (insert e l) ≡ true → ascends (cond b (e ∷ x ∷ l) (x ∷ insert e l)) ≡ true
     go true q o ih = ascends-cons e (x ∷ l) h (λ y m r.
         let s : x ≡ y = cc in
         rw (← s) (T-true (le (pitch e) (pitch x)) (lt-le (pitch e) (pitch x) (true-T (lt (pitch e) (pitch x)) q))))
@@ -129,7 +128,7 @@ gathered-ascends k before (e ∷ es) p a h =
   where
     go : (b : Bool) → pitchOk (pitch e) ≡ true
         → ((l : List PitchEntry) → all (λ x. pitchOk (pitch x)) l ≡ true → ascends l ≡ true → (all (λ x. pitchOk (pitch x)) (gathered k l es) ≡ true) × (ascends (gathered k l es) ≡ true))
-        → (all (λ x. pitchOk (pitch x)) (gathered k (pick b (insert e before) before) es) ≡ true) × (ascends (gathered k (pick b (insert e before) before) es) ≡ true)
+        → (all (λ x. pitchOk (pitch x)) (gathered k (cond b (insert e before) before) es) ≡ true) × (ascends (gathered k (cond b (insert e before) before) es) ≡ true)
     go true o ih = ih (insert e before) (all-insert (λ x. pitchOk (pitch x)) e before o p) (insert-ascends e before o p h)
     go false o ih = ih before p h
 
@@ -154,7 +153,7 @@ unfolding insert
 insert-length e [] = refl
 insert-length e (x ∷ l) = go (lt (pitch e) (pitch x)) (insert-length e l)
   where
-    go : (b : Bool) → length (insert e l) ≡ suc (length l) → length (pick b (e ∷ x ∷ l) (x ∷ insert e l)) ≡ suc (suc (length l))
+    go : (b : Bool) → length (insert e l) ≡ suc (length l) → length (cond b (e ∷ x ∷ l) (x ∷ insert e l)) ≡ suc (suc (length l))
     go true q = refl
     go false q = ap suc q
 
@@ -164,7 +163,7 @@ gathered-length k before [] = omega arith
 gathered-length k before (e ∷ es) = go (keeps k e) (gathered-length k (insert e before) es) (gathered-length k before es)
   where
     go : (b : Bool) → length (gathered k (insert e before) es) ≤ length (insert e before) + length es → length (gathered k before es) ≤ length before + length es
-        → length (gathered k (pick b (insert e before) before) es) ≤ length before + suc (length es)
+        → length (gathered k (cond b (insert e before) before) es) ≤ length before + suc (length es)
     go true p q = omega (arith, insert-length e before)
     go false p q = omega arith
 
@@ -177,7 +176,7 @@ unfolding reach
 reach-few e c zero = omega arith
 reach-few e c (suc n) = go (isNonzero (partialCoeff e c n)) (reach-few e c n)
   where
-    go : (b : Bool) → reach e c n ≤ n → pick b (suc n) (reach e c n) ≤ suc n
+    go : (b : Bool) → reach e c n ≤ n → cond b (suc n) (reach e c n) ≤ suc n
     go true h = omega arith
     go false h = omega arith
 
@@ -189,7 +188,7 @@ reach-in-few e (suc n) = let a = reach-in-few e n in let b = reach-few e n (mPar
 phases-for-few : (k : Kind) (n : ℕ) (e : PitchEntry) → phasesFor k n e ≤ mPartials e
 phases-for-few (Kind.Single c) n e = go (hasChannel e c)
   where
-    go : (b : Bool) → pick b (mPartials e) 0 ≤ mPartials e
+    go : (b : Bool) → cond b (mPartials e) 0 ≤ mPartials e
     go true = omega arith
     go false = omega arith
 phases-for-few Kind.Blend n e = reach-in-few e n
@@ -245,7 +244,7 @@ unfolding liveBands
 live-rising k es zero = record { below = λ i h. absurd (omega arith); up = λ i h. absurd (omega arith) }
 live-rising k es (suc b) = go (isLive k es b) (live-rising k es b)
   where
-    go : (x : Bool) → Rising b (liveBands k es b) → Rising (suc b) (liveBands k es b ++ pick x (b ∷ []) [])
+    go : (x : Bool) → Rising b (liveBands k es b) → Rising (suc b) (liveBands k es b ++ cond x (b ∷ []) [])
     go true r = rising-snoc b (liveBands k es b) r
     go false r = rw (append-nil (liveBands k es b)) (rising-more b (liveBands k es b) r)
 

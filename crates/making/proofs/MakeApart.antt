@@ -1,7 +1,8 @@
 -- Each answer of `make` has a number and values of its own: what its contract says of an answer fixes it. Assumes nothing.
+use mathlib.Core.Bool.{cond}
 use mathlib.Core.Path.{_≡_, refl, ap, sym, _∙_}
 use lib.Dec.{eqb}
-use Rattle.wire.specs.Parse.{Refusal, pick}
+use Rattle.wire.specs.Parse.{Refusal}
 use Rattle.table.specs.declared.error.CoeffTableCodecError.{CoeffTableCodecError}
 use Rattle.making.specs.declared.answer.MakeAnswer.{MakeAnswer}
 use Rattle.making.specs.MakeAnswer.{makeRefusal}
@@ -9,18 +10,18 @@ use Rattle.making.specs.MakeAnswer.{makeRefusal}
 -- the answer with a number and its values
 abbrev answerOf : Refusal → MakeAnswer
 answerOf r =
-    pick (eqb (r .number) 0) MakeAnswer.Done
-    (pick (eqb (r .number) 1) (MakeAnswer.Refused CoeffTableCodecError.TooLong)
-    (pick (eqb (r .number) 2) (MakeAnswer.Refused CoeffTableCodecError.UnexpectedEof)
-    (pick (eqb (r .number) 3) (MakeAnswer.Refused CoeffTableCodecError.BadMagic)
-    (pick (eqb (r .number) 4) (MakeAnswer.Refused (CoeffTableCodecError.UnsupportedVersion (r .first)))
-    (pick (eqb (r .number) 5) (MakeAnswer.Refused CoeffTableCodecError.BadUtf8)
-    (pick (eqb (r .number) 6) (MakeAnswer.Refused (CoeffTableCodecError.MalformedEntry (r .first)))
-    (pick (eqb (r .number) 7) (MakeAnswer.Refused (CoeffTableCodecError.InconsistentNoiseBandSpan (r .first) (r .second)))
-    (pick (eqb (r .number) 8) MakeAnswer.TooLarge
-    (pick (eqb (r .number) 9) (MakeAnswer.BadEntry (r .first))
-    (pick (eqb (r .number) 10) MakeAnswer.NoChannel
-    (pick (eqb (r .number) 11) MakeAnswer.BadRate
+    cond (eqb (r .number) 0) MakeAnswer.Done
+    (cond (eqb (r .number) 1) (MakeAnswer.Refused CoeffTableCodecError.TooLong)
+    (cond (eqb (r .number) 2) (MakeAnswer.Refused CoeffTableCodecError.UnexpectedEof)
+    (cond (eqb (r .number) 3) (MakeAnswer.Refused CoeffTableCodecError.BadMagic)
+    (cond (eqb (r .number) 4) (MakeAnswer.Refused (CoeffTableCodecError.UnsupportedVersion (r .first)))
+    (cond (eqb (r .number) 5) (MakeAnswer.Refused CoeffTableCodecError.BadUtf8)
+    (cond (eqb (r .number) 6) (MakeAnswer.Refused (CoeffTableCodecError.MalformedEntry (r .first)))
+    (cond (eqb (r .number) 7) (MakeAnswer.Refused (CoeffTableCodecError.InconsistentNoiseBandSpan (r .first) (r .second)))
+    (cond (eqb (r .number) 8) MakeAnswer.TooLarge
+    (cond (eqb (r .number) 9) (MakeAnswer.BadEntry (r .first))
+    (cond (eqb (r .number) 10) MakeAnswer.NoChannel
+    (cond (eqb (r .number) 11) MakeAnswer.BadRate
     MakeAnswer.BadCentres)))))))))))
 
 answer-back : (a : MakeAnswer) → answerOf (makeRefusal a) ≡ a

@@ -2,12 +2,11 @@
 use Prim.Native.Nat.{ℕ, zero, suc, _+_, _-_, _≤_, _<_}
 use mathlib.Core.Path.{_≡_, refl, ap, _∙_}
 use mathlib.Core.List.{List, [], _∷_, _++_, map, append-assoc, append-nil}
-use mathlib.Core.Bool.{Bool, true, false}
+use mathlib.Core.Bool.{Bool, true, false, cond}
 use native.Mathlib.Omega.{arith}
 use native.Mathlib.Numerals.{add-one}
 use lib.ListN.{length, take, drop, getD, set, replicate, length-append, length-map, drop-of-length-le}
 use lib.Seq.{drop-cons, set-at, take-suc, length-take-le}
-use Rattle.wire.specs.Parse.{pick}
 use Rattle.voice.specs.Lists.{upTo, padded}
 use Rattle.making.specs.inner.Live.{liveOf, addLive}
 use Rattle.making.specs.Making.{all}
@@ -42,7 +41,7 @@ pad-again-2 f g z d n i l ls h k e =
     rw (e, pad-snoc z (g (f (getD l i d))) n i (map g (map f (take i l))) m k, map-next f l i d h, map-snoc g (map f (take i l)) (f (getD l i d))) refl
 
 -- one live band more
-pub live-add : (l : List ℕ) (b : ℕ) (x : Bool) → length l < 16 → addLive (liveOf l) b x ≡ liveOf (l ++ pick x (b ∷ []) [])
+pub live-add : (l : List ℕ) (b : ℕ) (x : Bool) → length l < 16 → addLive (liveOf l) b x ≡ liveOf (l ++ cond x (b ∷ []) [])
 live-add l b true h = rw (pad-snoc 0 b 16 (length l) l refl h, length-append l (b ∷ [])) refl
 live-add l b false h = rw append-nil refl
 

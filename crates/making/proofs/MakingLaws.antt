@@ -2,7 +2,7 @@
 use Prim.Native.Nat.{ℕ, zero, suc, _+_, _≤_}
 use mathlib.Core.Path.{_≡_, refl}
 use mathlib.Core.List.{List, [], _∷_, _++_, append-nil}
-use mathlib.Core.Bool.{Bool, true, false, _&&_}
+use mathlib.Core.Bool.{Bool, true, false, _&&_, cond}
 use native.Mathlib.Omega.{arith}
 use native.Mathlib.Numerals.{add-one}
 use lib.ListN.{length, length-append}
@@ -10,7 +10,7 @@ use lib.Dec.{leb, eqb}
 use lib.Ieee.{Float}
 use lib.Ieee.Scale.{finite}
 use borrow.Author.Tests.{leb-true, le-leb, eqb-true, eq-eqb}
-use Rattle.wire.specs.Parse.{Refusal, refusal, pick}
+use Rattle.wire.specs.Parse.{Refusal, refusal}
 use Rattle.table.specs.declared.desk.Kind.{Kind}
 use Rattle.table.specs.Table.{PitchEntry}
 use Rattle.table.specs.Desk.{bandCount}
@@ -37,7 +37,7 @@ unfolding askValues all
 asked-values i [] r h = (refl, h)
 asked-values i (e ∷ es) r h = go (valuesOk e) (asked-values (i + 1) es r) h
   where
-    go : (b : Bool) → (askValues (i + 1) es r .number ≡ 0 → (all valuesOk es ≡ true) × (r .number ≡ 0)) → pick b (askValues (i + 1) es r) (refusal 9 i 0) .number ≡ 0 → (b && all valuesOk es ≡ true) × (r .number ≡ 0)
+    go : (b : Bool) → (askValues (i + 1) es r .number ≡ 0 → (all valuesOk es ≡ true) × (r .number ≡ 0)) → cond b (askValues (i + 1) es r) (refusal 9 i 0) .number ≡ 0 → (b && all valuesOk es ≡ true) × (r .number ≡ 0)
     go true ih p = ih p
     go false ih p = absurd (omega arith)
 
@@ -75,7 +75,7 @@ module _ (k : Kind) (es : List PitchEntry) (rate : Float) (centres : List Float)
       rw (le-leb (length es) 16 (a .few), a .sizes, values-pass 0 es _ (a .values), a .found, a .rate-ok, eq-eqb (length centres) (bandCount k es) (a .as-many), a .centres-finite) refl
 
 -- live bands, one band more
-pub live-next : (k : Kind) (es : List PitchEntry) (b : ℕ) → liveBands k es (b + 1) ≡ liveBands k es b ++ pick (isLive k es b) (b ∷ []) []
+pub live-next : (k : Kind) (es : List PitchEntry) (b : ℕ) → liveBands k es (b + 1) ≡ liveBands k es b ++ cond (isLive k es b) (b ∷ []) []
 unfolding liveBands
 live-next k es b = rw add-one refl
 
@@ -84,6 +84,6 @@ unfolding liveBands
 live-short k es zero = omega arith
 live-short k es (suc b) = go (isLive k es b) (live-short k es b)
   where
-    go : (x : Bool) → length (liveBands k es b) ≤ b → length (liveBands k es b ++ pick x (b ∷ []) []) ≤ suc b
+    go : (x : Bool) → length (liveBands k es b) ≤ b → length (liveBands k es b ++ cond x (b ∷ []) []) ≤ suc b
     go true h = rw (length-append (liveBands k es b) (b ∷ [])) (omega arith)
     go false h = rw (append-nil (liveBands k es b)) (omega arith)

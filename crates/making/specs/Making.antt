@@ -1,13 +1,13 @@
 -- Making a voice: what a table's entries become, and questions 8 to 12. (1 to 7 are the table's.)
 use Prim.Native.Nat.{ℕ, zero, suc, _+_, _*_, _/_, _%_, max, min}
 use mathlib.Core.List.{List, [], _∷_, _++_, map}
-use mathlib.Core.Bool.{Bool, true, false, _&&_, _||_}
+use mathlib.Core.Bool.{Bool, true, false, _&&_, _||_, cond}
 use mathlib.Core.Option.{Option, some, none}
 use lib.ListN.{length, getD, replicate}
 use lib.Dec.{leb, ltb, eqb}
 use lib.Ieee.{Float, binary32, ofBits, lt, ne}
 use lib.Ieee.Scale.{finite}
-use Rattle.wire.specs.Parse.{Refusal, refusal, Parsed, ok, refused, pick}
+use Rattle.wire.specs.Parse.{Refusal, refusal, Parsed, ok, refused}
 use Rattle.table.specs.declared.desk.Kind.{Kind}
 use Rattle.table.specs.Table.{PitchEntry, CoeffTable, mPartials, hasChannel, coefficientAt, metadataValue}
 use Rattle.table.specs.Decode.{decode, entriesOf}
@@ -44,22 +44,22 @@ keeps Kind.Blend e = true
 -- an entry put among entries that ascend by pitch, after those of equal pitch
 unfoldable pub insert : PitchEntry → List PitchEntry → List PitchEntry
 insert e [] = e ∷ []
-insert e (x ∷ xs) = pick (lt (f32 (e .f0Hz)) (f32 (x .f0Hz))) (e ∷ x ∷ xs) (x ∷ insert e xs)
+insert e (x ∷ xs) = cond (lt (f32 (e .f0Hz)) (f32 (x .f0Hz))) (e ∷ x ∷ xs) (x ∷ insert e xs)
 
 -- the entries kept, sorted by pitch, equal pitches in table order; `before` are those already put
 unfoldable pub gathered : Kind → List PitchEntry → List PitchEntry → List PitchEntry
 gathered k before [] = before
-gathered k before (e ∷ es) = gathered k (pick (keeps k e) (insert e before) before) es
+gathered k before (e ∷ es) = gathered k (cond (keeps k e) (insert e before) before) es
 
 abbrev pub voiceEntries : Kind → List PitchEntry → List PitchEntry
 voiceEntries k es = gathered k [] es
 
 -- ---- coefficients: one that an entry lacks counts 0
 abbrev pub partialCoeff : PitchEntry → ℕ → ℕ → Float
-partialCoeff e c i = pick (ltb i (mPartials e)) (f32 (coefficientAt e c i)) (nearest 0 1)
+partialCoeff e c i = cond (ltb i (mPartials e)) (f32 (coefficientAt e c i)) (nearest 0 1)
 
 abbrev pub noiseCoeff : PitchEntry → ℕ → ℕ → Float
-noiseCoeff e c b = pick (ltb b (e .jNoise)) (f32 (coefficientAt e c (mPartials e + b))) (nearest 0 1)
+noiseCoeff e c b = cond (ltb b (e .jNoise)) (f32 (coefficientAt e c (mPartials e + b))) (nearest 0 1)
 
 abbrev pub isNonzero : Float → Bool
 isNonzero x = ne x (nearest 0 1)
@@ -81,7 +81,7 @@ channelCount Kind.Blend es = min (mostChannels es) maxBlended
 -- one more than the highest of the first n partials that is not 0 in channel c; 0 where there is none
 unfoldable pub reach : PitchEntry → ℕ → ℕ → ℕ
 reach e c zero = 0
-reach e c (suc n) = pick (isNonzero (partialCoeff e c n)) (suc n) (reach e c n)
+reach e c (suc n) = cond (isNonzero (partialCoeff e c n)) (suc n) (reach e c n)
 
 -- the highest reach in the first n channels
 unfoldable pub reachIn : PitchEntry → ℕ → ℕ
@@ -90,7 +90,7 @@ reachIn e (suc n) = max (reachIn e n) (reach e n (mPartials e))
 
 -- the phases that an entry needs: all its partials in a single voice that keeps it; in a blend of n channels, as far as they reach
 abbrev pub phasesFor : Kind → ℕ → PitchEntry → ℕ
-phasesFor (Kind.Single c) n e = pick (hasChannel e c) (mPartials e) 0
+phasesFor (Kind.Single c) n e = cond (hasChannel e c) (mPartials e) 0
 phasesFor Kind.Blend n e = reachIn e n
 
 abbrev pub phaseCount : Kind → ℕ → List PitchEntry → ℕ
@@ -113,14 +113,14 @@ isLive Kind.Blend es b = liveAmong es (channelCount Kind.Blend es) b
 -- the live ones of the first n bands, ascending
 unfoldable pub liveBands : Kind → List PitchEntry → ℕ → List ℕ
 liveBands k es zero = []
-liveBands k es (suc b) = liveBands k es b ++ pick (isLive k es b) (b ∷ []) []
+liveBands k es (suc b) = liveBands k es b ++ cond (isLive k es b) (b ∷ []) []
 
 -- ---- gains: "mainlobe_gain" and "noise_gain" of the metadata, else 1
 abbrev pub mainlobeKey : List ℕ
-mainlobeKey = 109 ∷ 97 ∷ 105 ∷ 110 ∷ 108 ∷ 111 ∷ 98 ∷ 101 ∷ 95 ∷ 103 ∷ 97 ∷ 105 ∷ 110 ∷ []
+mainlobeKey = 0x6D ∷ 0x61 ∷ 0x69 ∷ 0x6E ∷ 0x6C ∷ 0x6F ∷ 0x62 ∷ 0x65 ∷ 0x5F ∷ 0x67 ∷ 0x61 ∷ 0x69 ∷ 0x6E ∷ []
 
 abbrev pub noiseGainKey : List ℕ
-noiseGainKey = 110 ∷ 111 ∷ 105 ∷ 115 ∷ 101 ∷ 95 ∷ 103 ∷ 97 ∷ 105 ∷ 110 ∷ []
+noiseGainKey = 0x6E ∷ 0x6F ∷ 0x69 ∷ 0x73 ∷ 0x65 ∷ 0x5F ∷ 0x67 ∷ 0x61 ∷ 0x69 ∷ 0x6E ∷ []
 
 abbrev pub gainOr1 : Option ℕ → Float
 gainOr1 (some v) = f32 v
@@ -132,8 +132,8 @@ gainOf key e = gainOr1 (metadataValue key (e .metadata))
 -- ---- the fresh voice
 -- slot q of an entry holds the single voice's channel, or channel q of a blend of n channels
 abbrev pub slotChannel : Kind → ℕ → ℕ → Option ℕ
-slotChannel (Kind.Single c) n q = pick (eqb q 0) (some c) none
-slotChannel Kind.Blend n q = pick (ltb q n) (some q) none
+slotChannel (Kind.Single c) n q = cond (eqb q 0) (some c) none
+slotChannel Kind.Blend n q = cond (ltb q n) (some q) none
 
 abbrev pub inSlot : (ℕ → Float) → Option ℕ → Float
 inSlot f (some c) = f c
@@ -253,7 +253,7 @@ valuesOk e =
 -- with the first such index; `rest` follows where there is none
 unfoldable pub askValues : ℕ → List PitchEntry → Refusal → Refusal
 askValues i [] rest = rest
-askValues i (e ∷ es) rest = pick (valuesOk e) (askValues (i + 1) es rest) (refusal 9 i 0)
+askValues i (e ∷ es) rest = cond (valuesOk e) (askValues (i + 1) es rest) (refusal 9 i 0)
 
 -- 10: single: is the table empty, or has some entry channel c?
 abbrev pub channelFound : Kind → List PitchEntry → Bool

@@ -2,7 +2,7 @@
 use mathlib.Core.Path.{_≡_, refl, sym, ap, subst, _∙_}
 use mathlib.Core.Logic.{⊎-elim}
 use mathlib.Core.List.{List}
-use mathlib.Core.Bool.{Bool, true, false}
+use mathlib.Core.Bool.{Bool, true, false, cond}
 use Prim.Native.Nat.{ℕ, zero, suc, _+_, _-_, _*_, _<_}
 use native.Mathlib.Numerals.{add-one}
 use native.Mathlib.Nat.{eq-or-lt-of-le}
@@ -11,7 +11,6 @@ use lib.ListN.{length, getD}
 use lib.Dec.{T, eqb, ltb, eqb→eq}
 use lib.Ieee.{Float, nan}
 use borrow.Author.Tests.{eq-eqb, ltb-true}
-use Rattle.wire.specs.Parse.{pick}
 use Rattle.voice.specs.Lists.{steps}
 use Rattle.filters.specs.Biquad.{tickOf}
 use Rattle.player.specs.Bracket.{between}
@@ -165,7 +164,7 @@ module _ (v : Voice) (K : LiveFit (v .set)) where
 
   -- ---- the sum of a sample, where the columns are those of f0 and g
   module _ (r : Rng) (ms : List Float) (f0 : Float) (g : List Float) (noiseGain : Float) (rows makeup ys : List Float) (eg : noiseGain ≡ between (noiseGains v) (sidesAt v f0))
-      (R : FilledRows rows (λ q l. noiseRow (v .noise) (sidesAt v f0) q (band l)) (pick (eqb (v .set .blend) 0) 1 (v .set .k)) (v .set .«live_count»))
+      (R : FilledRows rows (λ q l. noiseRow (v .noise) (sidesAt v f0) q (band l)) (cond (eqb (v .set .blend) 0) 1 (v .set .k)) (v .set .«live_count»))
       (M : Filled makeup (λ l. getD (compensations v) (band l) nan) (v .set .«live_count»))
       (Y : (l : ℕ) → l < v .set .«live_count» → getD ys l nan ≡ tickAt v (noiseIn r) ms (band l) .y) where
     term-is : (l : ℕ) → l < v .set .«live_count» → (y : Float) → noiseAdded (v .set .blend) (v .set .k) rows g noiseGain makeup ys l y ≡ noiseTerm v f0 g (band l) y (tickAt v (noiseIn r) ms (band l) .y)

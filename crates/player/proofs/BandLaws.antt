@@ -1,13 +1,12 @@
 -- A single voice with all its bands live keeps the voice rules, and is all but its list as it was.
 use mathlib.Core.Path.{_≡_, refl, _∙_}
-use mathlib.Core.Bool.{Bool, true, false, _&&_}
+use mathlib.Core.Bool.{Bool, true, false, _&&_, cond}
 use mathlib.Core.List.{List, _++_}
 use Prim.Native.Nat.{ℕ, zero, suc, _+_, _-_, _≤_, _<_}
 use native.Mathlib.Omega.{arith}
 use lib.ListN.{length, drop, getD, replicate, List·getD-append}
 use lib.Ieee.{Float}
 use lib.Dec.{T, eqb, ltb, leb, lt→ltb}
-use Rattle.wire.specs.Parse.{pick}
 use Rattle.voice.specs.Limits.{maxBands}
 use Rattle.voice.specs.Lists.{upTo, every}
 use Rattle.voice.specs.Voice.{countsOk, entriesOk, rateOk, liveOk, rulesOf, keepsRules, bandsAscend}
@@ -72,7 +71,7 @@ rules-all s lists phases h =
     let t = both-true (liveOk s) _ (r .1) in
     rw (counts-all s (p .0), q .0, r .0, live-all s, t .1)
 
-rules-ticking : (b : Bool) (s : Setting) (lists phases : List Float) → rulesOf s lists phases ≡ true → rulesOf (pick b (allLive s) s) lists phases ≡ true
+rules-ticking : (b : Bool) (s : Setting) (lists phases : List Float) → rulesOf s lists phases ≡ true → rulesOf (cond b (allLive s) s) lists phases ≡ true
 rules-ticking true s lists phases h = rules-all s lists phases h
 rules-ticking false s lists phases h = h
 

@@ -2,14 +2,13 @@
 use mathlib.Core.Path.{_≡_, refl, sym, ap, _∙_}
 use mathlib.Core.Logic.{⊎-elim}
 use mathlib.Core.List.{List}
-use mathlib.Core.Bool.{Bool, true, false}
+use mathlib.Core.Bool.{Bool, true, false, cond}
 use Prim.Native.Nat.{ℕ, zero, suc, _-_, _≤_, _<_}
 use native.Mathlib.Numerals.{sub-one}
 use native.Mathlib.Nat.{eq-or-lt-of-le, le-of-eq, le-trans}
 use native.Mathlib.Omega.{arith}
 use lib.ListN.{getD}
 use lib.Ieee.{Float, nan, le}
-use Rattle.wire.specs.Parse.{pick}
 use Rattle.player.specs.Share.{shareOf}
 use Rattle.player.specs.Bracket.{notAbove, neighbours}
 use Rattle.player.specs.declared.pitch.bracket.Bracket.{Bracket}
@@ -39,7 +38,7 @@ notAbove-le ps f (suc n) k h = go (le (getD ps n nan) f) refl (notAbove-le ps f 
     same : (n k : ℕ) → suc n ≡ suc k → n ≡ k
     same n k e = omega arith
 
-    go : (b : Bool) → le (getD ps n nan) f ≡ b → (notAbove ps f n ≡ suc k → le (getD ps k nan) f ≡ true) → pick b (suc n) (notAbove ps f n) ≡ suc k → le (getD ps k nan) f ≡ true
+    go : (b : Bool) → le (getD ps n nan) f ≡ b → (notAbove ps f n ≡ suc k → le (getD ps k nan) f ≡ true) → cond b (suc n) (notAbove ps f n) ≡ suc k → le (getD ps k nan) f ≡ true
     go true e r g = rw (← same n k g) e
     go false e r g = r g
 
@@ -49,7 +48,7 @@ unfolding notAbove
 notAbove-in ps f zero = omega arith
 notAbove-in ps f (suc n) = go (le (getD ps n nan) f) (notAbove ps f n) (notAbove-in ps f n)
   where
-    go : (b : Bool) (a : ℕ) → a ≤ n → pick b (suc n) a ≤ suc n
+    go : (b : Bool) (a : ℕ) → a ≤ n → cond b (suc n) a ≤ suc n
     go true a h = omega arith
     go false a h = omega arith
 
@@ -59,7 +58,7 @@ unfolding notAbove
 notAbove-rest ps f zero k h l = absurd (omega arith)
 notAbove-rest ps f (suc n) k h l = go (le (getD ps n nan) f) refl (notAbove-rest ps f n k) h
   where
-    go : (b : Bool) → le (getD ps n nan) f ≡ b → (notAbove ps f n ≤ k → k < n → le (getD ps k nan) f ≡ false) → pick b (suc n) (notAbove ps f n) ≤ k → le (getD ps k nan) f ≡ false
+    go : (b : Bool) → le (getD ps n nan) f ≡ b → (notAbove ps f n ≤ k → k < n → le (getD ps k nan) f ≡ false) → cond b (suc n) (notAbove ps f n) ≤ k → le (getD ps k nan) f ≡ false
     go true e r g = absurd (omega arith)
     go false e r g = ⊎-elim (λ (q : k ≡ n). rw q e) (λ (q : k < n). r g q) (eq-or-lt-of-le (omega arith))
 

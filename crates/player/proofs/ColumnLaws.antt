@@ -2,7 +2,7 @@
 use mathlib.Core.Path.{_≡_, refl, sym, ap, _∙_}
 use mathlib.Core.Logic.{⊎-elim}
 use mathlib.Core.List.{List}
-use mathlib.Core.Bool.{Bool, true, false}
+use mathlib.Core.Bool.{Bool, true, false, cond}
 use Prim.Native.Nat.{ℕ, zero, suc, _+_, _*_, _≤_, _<_}
 use native.Mathlib.Nat.{eq-or-lt-of-le}
 use native.Mathlib.Omega.{arith}
@@ -11,7 +11,6 @@ use lib.Seq.{getD-set-same, getD-set-other, lt-length-set}
 use lib.Dec.{T}
 use lib.Ieee.{Float, nan, binary32, fits, eq, ne}
 use lib.Ieee.Fits.{add-fits}
-use Rattle.wire.specs.Parse.{pick}
 use Rattle.float.specs.F32.{_⊕_, nearest}
 use Rattle.float.proofs.Identities.{add-minus-zero}
 use Rattle.voice.specs.Lists.{mapTo, steps}
@@ -152,7 +151,7 @@ ticked-full ys w1 w2 z1 z2 cs x l n e K = rw e at K
 pub add-heard : (y c x : Float) → T (fits binary32 y) → y ⊕ audible c x ≡ added y c x
 add-heard y c x F = go (ne c (nearest 0 1))
   where
-    go : (b : Bool) → y ⊕ pick b x minusZero ≡ pick b (y ⊕ x) y
+    go : (b : Bool) → y ⊕ cond b x minusZero ≡ cond b (y ⊕ x) y
     go true = refl
     go false = add-minus-zero y F
 

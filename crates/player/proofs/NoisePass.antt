@@ -1,12 +1,11 @@
 -- The pass over the live bands: from sample to sample the columns hold the memories of the definitions, and each sample is `noisy`'s.
 use mathlib.Core.Path.{_≡_, refl, sym, ap, _∙_, subst}
 use mathlib.Core.List.{List, _++_}
-use mathlib.Core.Bool.{true}
+use mathlib.Core.Bool.{true, cond}
 use Prim.Native.Nat.{ℕ, _+_, _<_}
 use lib.ListN.{length, getD, set, drop}
 use lib.Dec.{T, eqb}
 use lib.Ieee.{Float, nan, binary32, eq, fits}
-use Rattle.wire.specs.Parse.{pick}
 use Rattle.float.specs.inner.Range.{Within}
 use Rattle.voice.specs.Lists.{upTo, steps}
 use Rattle.voice.specs.Input.{cleaned}
@@ -78,7 +77,7 @@ module _ (v : Voice) (K : LiveFit (v .set)) (x : Constants) (X : (x .blend ≡ v
   -- one sample
   module _ (freq : ℕ → Float) (g : ℕ → List Float) (i : ℕ) (z1 z2 : List Float) (rng : Rng) (rows₀ : List Float) (t₀ : NoiseTuning) (G : BandsAt v x i z1 z2 rng rows₀ t₀)
       (f0 : Float) (ef : f0 ≡ cleaned (freq i)) (F : T (fits binary32 f0)) (W : Within 20000 1 f0) (rows : List Float) (t : NoiseTuning) (U : NoiseTunedTo v x f0 rows t)
-      (next : Bipolar) (en : (next .value ≡ noiseIn rng) × (next .rng ≡ pick (eqb (v .set .«live_count») 0) rng (nextBipolar rng .rng)))
+      (next : Bipolar) (en : (next .value ≡ noiseIn rng) × (next .rng ≡ cond (eqb (v .set .«live_count») 0) rng (nextBipolar rng .rng)))
       (ys w1 w2 cs : List Float) (C : Coeffs cs (v .lists) (v .set .live) (v .set .«live_count»)) (K1 : Ticked ys w1 w2 z1 z2 cs (next .value) (v .set .«live_count»)) where
     heard-noise : next .value ≡ noiseIn (rngAt v i)
     heard-noise = en .0 ∙ ap (λ (z : Rng). noiseIn z) (G .rng-is)

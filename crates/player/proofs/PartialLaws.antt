@@ -1,13 +1,12 @@
 -- The columns of a sample's partials put together to the definitions: what moves, and what is audible.
 use mathlib.Core.Path.{_≡_, refl, sym, ap, _∙_, subst}
 use mathlib.Core.List.{List, [], _∷_}
-use mathlib.Core.Bool.{Bool, true}
+use mathlib.Core.Bool.{Bool, true, cond}
 use Prim.Native.Nat.{ℕ, zero, suc, _+_, _*_, _≤_, _<_}
 use native.Mathlib.Omega.{arith}
 use lib.ListN.{getD}
 use lib.Dec.{T, eqb}
 use lib.Ieee.{Float, nan, inf, fin, binary32, eq, fits, le}
-use Rattle.wire.specs.Parse.{pick}
 use Rattle.float.specs.inner.Range.{Within}
 use Rattle.float.proofs.Identities.{same-float}
 use Rattle.float.specs.F32.{nearest}
@@ -48,7 +47,7 @@ pub record TunedVoice (v : Voice) (f0 : Float) (incs fades rows : List Float) (t
   pub small : t .small ≡ every (λ i. le (getD incs i nan) (nearest 31 32)) (v .set .m)
   pub steps-are : Filled incs (λ i. stepAt v f0 i) (v .set .m)
   pub fading : Filled fades (λ i. fadeAt v f0 i) (v .set .m)
-  pub rows-are : FilledRows rows (λ q i. partialRow (v .partials) (sidesAt v f0) q i) (pick (eqb (v .set .blend) 0) 1 (v .set .k)) (v .set .m)
+  pub rows-are : FilledRows rows (λ q i. partialRow (v .partials) (sidesAt v f0) q i) (cond (eqb (v .set .blend) 0) 1 (v .set .k)) (v .set .m)
 
 abbrev pub TunedTo : Voice → Constants → Float → List Float → List Float → List Float → Tuning → Type 0
 TunedTo v x f0 incs fades rows t = Tuned x (v .set .count) (pitches v) (stretches v) (mainlobes v) (v .partials) f0 incs fades rows t

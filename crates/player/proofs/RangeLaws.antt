@@ -12,7 +12,7 @@ use lib.Dec.{T, ltb, lt→ltb, eqb, eqb→eq, lit≤, lit<}
 use lib.Ieee.{Float, nan, inf, fin, Format, binary32, up, down, round, sum, add, sub, mul, neg, lt, le, eq, fits}
 use lib.Ieee.Fits.{up-pos, down-pos, and-l}
 use lib.Ieee.Positive.{num, den, den-pos}
-use Rattle.float.specs.inner.Range.{plain, Within, UpTo}
+use Rattle.float.specs.inner.Range.{plain, Within, AtMost}
 use Rattle.float.specs.Lerp.{lerp}
 use Rattle.float.specs.Fraction.{fraction}
 use Rattle.float.proofs.Within.{Holds, on-plain, le→cross, lt→cross, cross→le, cross→lt, add-within, mul-within, sub-within, fits-holds}
@@ -200,8 +200,8 @@ down-to lo t e F L S =
     let u = add binary32 (fin false 0 e) lo in
     let D = den-pos lo in
     let self : Holds binary32 (num lo) (den lo) = fits-holds binary32 lo F (L .plain-is) in
-    let U : UpTo lo u = add-within binary32 (fin false 0 e) lo 0 1 (num lo) (den lo) (num lo) (den lo) (lit< tt) D D self (zero-within 0 1 e) (up-to-self lo (L .plain-is)) (alone (num lo) (den lo)) in
-    let W : UpTo lo (mul binary32 t u) = mul-within binary32 t u 1 1 (num lo) (den lo) (num lo) (den lo) (lit< tt) D D self S U (one-of (num lo) (den lo)) in
+    let U : AtMost lo u = add-within binary32 (fin false 0 e) lo 0 1 (num lo) (den lo) (num lo) (den lo) (lit< tt) D D self (zero-within 0 1 e) (up-to-self lo (L .plain-is)) (alone (num lo) (den lo)) in
+    let W : AtMost lo (mul binary32 t u) = mul-within binary32 t u 1 1 (num lo) (den lo) (num lo) (den lo) (lit< tt) D D self S U (one-of (num lo) (den lo)) in
     let q : lerp lo (fin true 0 e) t ≡ sub binary32 lo (mul binary32 t u) =
     ap (λ (z : Float). add binary32 lo (mul binary32 t z)) (zero-less binary32 e lo (L .plain-is))
     ∙ ap (λ (z : Float). add binary32 lo z) (mul-neg binary32 t u (S .plain-is) (U .plain-is))

@@ -1,14 +1,13 @@
 -- A single voice and a blend sound by one formula, of a coefficient and a gain: a blend's gain is 1, and a product with 1 is the float itself.
 use mathlib.Core.Path.{_≡_, refl, sym, ap, _∙_}
 use mathlib.Core.List.{List}
-use mathlib.Core.Bool.{Bool, true, false, not}
+use mathlib.Core.Bool.{Bool, true, false, not, cond}
 use Prim.Native.Nat.{ℕ, zero, suc, _<_}
 use native.Mathlib.Omega.{arith}
 use lib.ListN.{getD}
 use lib.Dec.{T, eqb}
 use lib.Ieee.{Float, nan, binary32, fits, ne, round}
 use lib.Ieee.Fits.{round-fits, add-fits, mul-fits}
-use Rattle.wire.specs.Parse.{pick}
 use Rattle.float.specs.Sqrt.{sqrt}
 use Rattle.float.specs.F32.{_⊕_, _⊗_, nearest}
 use Rattle.float.proofs.Identities.{mul-one}
@@ -31,7 +30,7 @@ times-one a b = mul-one (a ⊗ b) (mul-fits binary32 a b)
 -- ---- LAW: what a blend adds is what a single voice of gain 1 adds
 blend-is-single : (y coeff mainlobe fade p : Float) → addBlend y coeff mainlobe fade p ≡ addSingle y coeff mainlobe fade (nearest 1 1) p
 unfolding addSingle addBlend
-blend-is-single y coeff mainlobe fade p = ap (λ (z : Float). pick (ne coeff (nearest 0 1)) (y ⊕ z ⊗ sineOf p) y) (sym (times-one (coeff ⊗ mainlobe) fade))
+blend-is-single y coeff mainlobe fade p = ap (λ (z : Float). cond (ne coeff (nearest 0 1)) (y ⊕ z ⊗ sineOf p) y) (sym (times-one (coeff ⊗ mainlobe) fade))
 
 -- a power is of the format, so it is 0 exactly where its root is
 power-fits : (row : ℕ → Float) (g : List Float) (k : ℕ) → T (fits binary32 (blendPower row g k))
@@ -42,8 +41,8 @@ power-fits row g (suc k) = add-fits binary32 _ _
 noise-blend-is-single : (y power noiseGain makeup filtered : Float) → T (fits binary32 power) → addNoiseBlend y power noiseGain makeup filtered ≡ addNoiseSingle y (sqrt power) (nearest 1 1) noiseGain makeup filtered
 unfolding addNoiseSingle addNoiseBlend ne round
 noise-blend-is-single y power noiseGain makeup filtered F =
-    ap (λ (b : Bool). pick (not b) (y ⊕ sqrt power ⊗ noiseGain ⊗ makeup ⊗ filtered) y) (sym (sqrt-zero-alike power F))
-    ∙ ap (λ (z : Float). pick (ne (sqrt power) (nearest 0 1)) (y ⊕ z ⊗ makeup ⊗ filtered) y) (sym (times-one (sqrt power) noiseGain))
+    ap (λ (b : Bool). cond (not b) (y ⊕ sqrt power ⊗ noiseGain ⊗ makeup ⊗ filtered) y) (sym (sqrt-zero-alike power F))
+    ∙ ap (λ (z : Float). cond (ne (sqrt power) (nearest 0 1)) (y ⊕ z ⊗ makeup ⊗ filtered) y) (sym (times-one (sqrt power) noiseGain))
 
 -- ---- LAW: a term of either kind, by one formula
 pub partial-by-one : (v : Voice) (f0 : Float) (g : List Float) (i : ℕ) (y p : Float)
@@ -54,8 +53,8 @@ partial-by-one v f0 g i y p = go (eqb (v .set .blend) 0)
     row : ℕ → Float
     row q = partialRow (v .partials) (sidesAt v f0) q i
 
-    go : (b : Bool) → addSingle y (pick b (row 0) (blendCoeff row g (v .set .k))) (between (mainlobes v) (sidesAt v f0)) (fadeAt v f0 i) (pick b (getD g 0 nan) (nearest 1 1)) p
-        ≡ pick b (addSingle y (row 0) (between (mainlobes v) (sidesAt v f0)) (fadeAt v f0 i) (getD g 0 nan) p) (addBlend y (blendCoeff row g (v .set .k)) (between (mainlobes v) (sidesAt v f0)) (fadeAt v f0 i) p)
+    go : (b : Bool) → addSingle y (cond b (row 0) (blendCoeff row g (v .set .k))) (between (mainlobes v) (sidesAt v f0)) (fadeAt v f0 i) (cond b (getD g 0 nan) (nearest 1 1)) p
+        ≡ cond b (addSingle y (row 0) (between (mainlobes v) (sidesAt v f0)) (fadeAt v f0 i) (getD g 0 nan) p) (addBlend y (blendCoeff row g (v .set .k)) (between (mainlobes v) (sidesAt v f0)) (fadeAt v f0 i) p)
     go true = refl
     go false = sym (blend-is-single y (blendCoeff row g (v .set .k)) (between (mainlobes v) (sidesAt v f0)) (fadeAt v f0 i) p)
 
@@ -67,17 +66,17 @@ noise-by-one v f0 g b y filtered = go (eqb (v .set .blend) 0)
     row : ℕ → Float
     row q = noiseRow (v .noise) (sidesAt v f0) q b
 
-    go : (t : Bool) → addNoiseSingle y (pick t (row 0) (sqrt (blendPower row g (v .set .k)))) (pick t (getD g 0 nan) (nearest 1 1)) (between (noiseGains v) (sidesAt v f0)) (getD (compensations v) b nan) filtered
-        ≡ pick t (addNoiseSingle y (row 0) (getD g 0 nan) (between (noiseGains v) (sidesAt v f0)) (getD (compensations v) b nan) filtered) (addNoiseBlend y (blendPower row g (v .set .k)) (between (noiseGains v) (sidesAt v f0)) (getD (compensations v) b nan) filtered)
+    go : (t : Bool) → addNoiseSingle y (cond t (row 0) (sqrt (blendPower row g (v .set .k)))) (cond t (getD g 0 nan) (nearest 1 1)) (between (noiseGains v) (sidesAt v f0)) (getD (compensations v) b nan) filtered
+        ≡ cond t (addNoiseSingle y (row 0) (getD g 0 nan) (between (noiseGains v) (sidesAt v f0)) (getD (compensations v) b nan) filtered) (addNoiseBlend y (blendPower row g (v .set .k)) (between (noiseGains v) (sidesAt v f0)) (getD (compensations v) b nan) filtered)
     go true = refl
     go false = sym (noise-blend-is-single y (blendPower row g (v .set .k)) (between (noiseGains v) (sidesAt v f0)) (getD (compensations v) b nan) filtered (power-fits row g (v .set .k)))
 
 -- ---- coefficients of equal rows are equal: of a single voice one row, of a blend of k channels k
-module _ (blend k : ℕ) (r s : ℕ → Float) (g : List Float) (e : (q : ℕ) → q < pick (eqb blend 0) 1 k → r q ≡ s q) where
-  alike : (F : (ℕ → Float) → Float) → (((q : ℕ) → q < k → r q ≡ s q) → F r ≡ F s) → pick (eqb blend 0) (r 0) (F r) ≡ pick (eqb blend 0) (s 0) (F s)
+module _ (blend k : ℕ) (r s : ℕ → Float) (g : List Float) (e : (q : ℕ) → q < cond (eqb blend 0) 1 k → r q ≡ s q) where
+  alike : (F : (ℕ → Float) → Float) → (((q : ℕ) → q < k → r q ≡ s q) → F r ≡ F s) → cond (eqb blend 0) (r 0) (F r) ≡ cond (eqb blend 0) (s 0) (F s)
   alike F f = go (eqb blend 0) e
     where
-      go : (b : Bool) → ((q : ℕ) → q < pick b 1 k → r q ≡ s q) → pick b (r 0) (F r) ≡ pick b (s 0) (F s)
+      go : (b : Bool) → ((q : ℕ) → q < cond b 1 k → r q ≡ s q) → cond b (r 0) (F r) ≡ cond b (s 0) (F s)
       go true h = h 0 (omega arith)
       go false h = f h
 

@@ -22,7 +22,7 @@ use Rattle.player.specs.inner.Columns.{Filled}
 use Rattle.player.specs.Phase.{Phase, AllPhases}
 use Rattle.wave_table.specs.Wave.{Waves}
 use Rattle.filters.specs.Wave.{placeOf, cellOf, restOf, sineOf}
-use Rattle.player.specs.inner.Sines.{cellFloat, indexOf, startOf, riseOf, lineAt, Cell, AllCells}
+use Rattle.player.specs.inner.Sines.{cellFloat, indexOf, cellStart, cellRise, lineAt, Cell, AllCells}
 use Rattle.wave_table.proofs.Alike.{rise-exact}
 use Rattle.filters.proofs.SineLaws.{cell-lt}
 
@@ -82,29 +82,29 @@ cells-full xs i n e h = subst (λ (k : ℕ). AllCells xs k) e h
 
 -- ---- the line from the table's entry k
 module _ (w : List Float) (t : Waves w) (k : ℕ) (h : k < 1024) where
-  pub start-is : getD w k nan ≡ startOf k
+  pub start-is : getD w k nan ≡ cellStart k
   start-is = t .entry k (omega arith)
 
-  pub rise-is : sub binary32 (getD w (k + 1) nan) (getD w k nan) ≡ riseOf k
+  pub rise-is : sub binary32 (getD w (k + 1) nan) (getD w k nan) ≡ cellRise k
   rise-is =
       ap (λ (z : Float). sub binary32 z (getD w k nan)) (t .entry (k + 1) (omega arith))
-      ∙ ap (λ (z : Float). sub binary32 (startOf (k + 1)) z) start-is
+      ∙ ap (λ (z : Float). sub binary32 (cellStart (k + 1)) z) start-is
       ∙ rise-exact k h
 
 -- S of a phase, by its cell as a float
-pub sine-is : (p : Float) → Phase p → lineAt (startOf (indexOf (cellFloat p))) (restOf p) (riseOf (indexOf (cellFloat p))) ≡ sineOf p
+pub sine-is : (p : Float) → Phase p → lineAt (cellStart (indexOf (cellFloat p))) (restOf p) (cellRise (indexOf (cellFloat p))) ≡ sineOf p
 unfolding sineOf
-sine-is p h = ap (λ (k : ℕ). lineAt (startOf k) (restOf p) (riseOf k)) (index-is (cellOf p) (cell-le p h))
+sine-is p h = ap (λ (k : ℕ). lineAt (cellStart k) (restOf p) (cellRise k)) (index-is (cellOf p) (cell-le p h))
 
 -- a column of them
 pub sines-filled : (ps cells rests starts rises sines : List Float) (m : ℕ) → AllPhases ps m → Filled cells (λ i. cellFloat (getD ps i nan)) m → Filled rests (λ i. restOf (getD ps i nan)) m
-    → Filled starts (λ i. startOf (indexOf (getD cells i nan))) m → Filled rises (λ i. riseOf (indexOf (getD cells i nan))) m
+    → Filled starts (λ i. cellStart (indexOf (getD cells i nan))) m → Filled rises (λ i. cellRise (indexOf (getD cells i nan))) m
     → Filled sines (λ i. lineAt (getD starts i nan) (getD rests i nan) (getD rises i nan)) m → Filled sines (λ i. sineOf (getD ps i nan)) m
 sines-filled ps cells rests starts rises sines m P C R S D L = record {
   at = λ i h. L .at i h
       ∙ ap (λ (z : Float). lineAt z (getD rests i nan) (getD rises i nan)) (S .at i h)
-      ∙ ap (λ (z : Float). lineAt (startOf (indexOf (getD cells i nan))) (getD rests i nan) z) (D .at i h)
-      ∙ ap (λ (z : Float). lineAt (startOf (indexOf z)) (getD rests i nan) (riseOf (indexOf z))) (C .at i h)
-      ∙ ap (λ (z : Float). lineAt (startOf (indexOf (cellFloat (getD ps i nan)))) z (riseOf (indexOf (cellFloat (getD ps i nan))))) (R .at i h)
+      ∙ ap (λ (z : Float). lineAt (cellStart (indexOf (getD cells i nan))) (getD rests i nan) z) (D .at i h)
+      ∙ ap (λ (z : Float). lineAt (cellStart (indexOf z)) (getD rests i nan) (cellRise (indexOf z))) (C .at i h)
+      ∙ ap (λ (z : Float). lineAt (cellStart (indexOf (cellFloat (getD ps i nan)))) z (cellRise (indexOf (cellFloat (getD ps i nan))))) (R .at i h)
       ∙ sine-is (getD ps i nan) (P .at i h);
 }

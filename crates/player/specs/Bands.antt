@@ -1,9 +1,9 @@
 -- Which bands of a voice tick: of a single voice all of them, whatever its list of live bands says; of a blend those of the list.
 -- A single voice that was made has all its bands in the list, so it is played as it stands.
+use mathlib.Core.Bool.{cond}
 use Prim.Native.Nat.{ℕ}
 use mathlib.Core.List.{List}
 use lib.Dec.{eqb}
-use Rattle.wire.specs.Parse.{pick}
 use Rattle.voice.specs.Limits.{maxBands}
 use Rattle.voice.specs.Lists.{upTo, padded}
 use Rattle.voice.specs.Voice.{voiceOf}
@@ -29,7 +29,7 @@ allLive s = record {
 
 -- a voice's numbers as it is played by them, and the voice with these
 abbrev pub tickingSet : Setting → Setting
-tickingSet s = pick (eqb (s .blend) 0) (allLive s) s
+tickingSet s = cond (eqb (s .blend) 0) (allLive s) s
 
 abbrev pub ticking : Voice → Voice
 ticking v = voiceOf (tickingSet (v .set)) (v .lists) (v .partials) (v .noise) (v .state)

@@ -1,9 +1,9 @@
 -- The entries between which a frequency lies: one, or two neighbours with the share t between them.
+use mathlib.Core.Bool.{cond}
 use Prim.Native.Nat.{ℕ, zero, suc, _-_, _<_}
 use mathlib.Core.List.{List}
 use lib.ListN.{getD}
 use lib.Ieee.{Float, nan, le}
-use Rattle.wire.specs.Parse.{pick}
 use Rattle.float.specs.Lerp.{lerp}
 use Rattle.float.specs.F32.{nearest}
 use Rattle.player.specs.Share.{shareOf}
@@ -13,7 +13,7 @@ use Rattle.player.specs.declared.pitch.bracket.Sides.{Sides}
 -- how many of the first n pitches, up to the last that is not above f0: that entry's index plus 1, or 0
 unfoldable pub notAbove : List Float → Float → ℕ → ℕ
 notAbove pitches f0 zero = zero
-notAbove pitches f0 (suc n) = pick (le (getD pitches n nan) f0) (suc n) (notAbove pitches f0 n)
+notAbove pitches f0 (suc n) = cond (le (getD pitches n nan) f0) (suc n) (notAbove pitches f0 n)
 
 -- the last entry not above f0 and the one after it, with t
 unfoldable pub neighbours : List Float → Float → ℕ → Bracket
@@ -23,8 +23,8 @@ neighbours pitches f0 (suc lo) = Bracket.Between lo (suc lo) (shareOf (getD pitc
 -- among n entries: at or below the first pitch the first entry, else at or above the last pitch the last, else two neighbours
 unfoldable pub bracketOf : List Float → ℕ → Float → Bracket
 bracketOf pitches n f0 =
-    pick (le f0 (getD pitches 0 nan)) (Bracket.One 0)
-    (pick (le (getD pitches (n - 1) nan) f0) (Bracket.One (n - 1))
+    cond (le f0 (getD pitches 0 nan)) (Bracket.One 0)
+    (cond (le (getD pitches (n - 1) nan) f0) (Bracket.One (n - 1))
     (neighbours pitches f0 (notAbove pitches f0 (n - 1))))
 
 -- one entry stands on both sides with t = 0

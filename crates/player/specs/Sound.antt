@@ -1,10 +1,10 @@
 -- One sample of a voice: what moves, and what is audible. The operations stand in the order of the Rust's `process`.
+use mathlib.Core.Bool.{cond}
 use Prim.Native.Nat.{ℕ, _+_, _*_}
 use mathlib.Core.List.{List}
 use lib.ListN.{getD}
 use lib.Dec.{eqb}
 use lib.Ieee.{Float, nan, ne}
-use Rattle.wire.specs.Parse.{pick}
 use Rattle.float.specs.Lerp.{lerp}
 use Rattle.float.specs.Sqrt.{sqrt}
 use Rattle.float.specs.F32.{_⊕_, _⊗_, nearest}
@@ -55,20 +55,20 @@ movedPhases v f0 ps = mapTo (λ i p. advanceOf p (stepAt v f0 i)) 0 (v .set .m) 
 
 -- a single voice: the coefficient, and gain 0
 unfoldable pub addSingle : Float → Float → Float → Float → Float → Float → Float
-addSingle y coeff mainlobe fade gain p = pick (ne coeff (nearest 0 1)) (y ⊕ coeff ⊗ mainlobe ⊗ fade ⊗ gain ⊗ sineOf p) y
+addSingle y coeff mainlobe fade gain p = cond (ne coeff (nearest 0 1)) (y ⊕ coeff ⊗ mainlobe ⊗ fade ⊗ gain ⊗ sineOf p) y
 
 -- a blend: the sum of gains times coefficients over k channels
 unfoldable pub blendCoeff : (ℕ → Float) → List Float → ℕ → Float
 blendCoeff row g k = steps (λ q y. y ⊕ getD g q nan ⊗ row q) (nearest 0 1) k
 
 unfoldable pub addBlend : Float → Float → Float → Float → Float → Float
-addBlend y coeff mainlobe fade p = pick (ne coeff (nearest 0 1)) (y ⊕ coeff ⊗ mainlobe ⊗ fade ⊗ sineOf p) y
+addBlend y coeff mainlobe fade p = cond (ne coeff (nearest 0 1)) (y ⊕ coeff ⊗ mainlobe ⊗ fade ⊗ sineOf p) y
 
 unfoldable pub partialTerm : Voice → Float → List Float → ℕ → Float → Float → Float
 partialTerm v f0 g i y p =
     let s = sidesAt v f0 in
     let mainlobe = between (mainlobes v) s in
-    pick (eqb (v .set .blend) 0)
+    cond (eqb (v .set .blend) 0)
     (addSingle y (partialRow (v .partials) s 0 i) mainlobe (fadeAt v f0 i) (getD g 0 nan) p)
     (addBlend y (blendCoeff (λ q. partialRow (v .partials) s q i) g (v .set .k)) mainlobe (fadeAt v f0 i) p)
 
@@ -83,7 +83,7 @@ abbrev pub noiseIn : Rng → Float
 noiseIn g = nextBipolar g .value ⊗ unitVariance
 
 unfoldable pub movedRng : Voice → Rng → Rng
-movedRng v g = pick (eqb (v .set .«live_count») 0) g (nextBipolar g .rng)
+movedRng v g = cond (eqb (v .set .«live_count») 0) g (nextBipolar g .rng)
 
 -- band b hears the noise x, from its memories before the sample
 abbrev pub tickAt : Voice → Float → List Float → ℕ → Tick
@@ -91,7 +91,7 @@ tickAt v x ms b = tickOf (memoryAt ms b) x (bandAt (v .lists) b)
 
 unfoldable pub addNoiseSingle : Float → Float → Float → Float → Float → Float → Float
 addNoiseSingle y coeff gain noiseGain compensation filtered =
-    pick (ne coeff (nearest 0 1)) (y ⊕ coeff ⊗ noiseGain ⊗ gain ⊗ compensation ⊗ filtered) y
+    cond (ne coeff (nearest 0 1)) (y ⊕ coeff ⊗ noiseGain ⊗ gain ⊗ compensation ⊗ filtered) y
 
 -- the power over k channels: the root of the summed squares is the blend's coefficient
 unfoldable pub blendPower : (ℕ → Float) → List Float → ℕ → Float
@@ -99,13 +99,13 @@ blendPower row g k = steps (λ q y. y ⊕ (getD g q nan ⊗ row q) ⊗ (getD g q
 
 unfoldable pub addNoiseBlend : Float → Float → Float → Float → Float → Float
 addNoiseBlend y power noiseGain compensation filtered =
-    pick (ne power (nearest 0 1)) (y ⊕ sqrt power ⊗ noiseGain ⊗ compensation ⊗ filtered) y
+    cond (ne power (nearest 0 1)) (y ⊕ sqrt power ⊗ noiseGain ⊗ compensation ⊗ filtered) y
 
 unfoldable pub noiseTerm : Voice → Float → List Float → ℕ → Float → Float → Float
 noiseTerm v f0 g b y filtered =
     let s = sidesAt v f0 in
     let noiseGain = between (noiseGains v) s in
-    pick (eqb (v .set .blend) 0)
+    cond (eqb (v .set .blend) 0)
     (addNoiseSingle y (noiseRow (v .noise) s 0 b) (getD g 0 nan) noiseGain (getD (compensations v) b nan) filtered)
     (addNoiseBlend y (blendPower (λ q. noiseRow (v .noise) s q b) g (v .set .k)) noiseGain (getD (compensations v) b nan) filtered)
 
@@ -121,7 +121,7 @@ noiseSum v f0 g r ms y =
 -- ---- the whole sample, from the state before it: 0 where the voice has no entry
 unfoldable pub sound : Voice → State → Float → List Float → Float
 sound v s f0 g =
-    pick (eqb (v .set .count) 0) (nearest 0 1) (noiseSum v f0 g (s .rng) (s .memories) (partialSum v f0 g (s .phases)))
+    cond (eqb (v .set .count) 0) (nearest 0 1) (noiseSum v f0 g (s .rng) (s .memories) (partialSum v f0 g (s .phases)))
 
 -- the memories after it, whatever the gains are: each live band's are those after its tick
 unfoldable pub movedMemories : Voice → Rng → List Float → List Float
@@ -131,5 +131,5 @@ movedMemories v r ms =
 -- what moves: nothing where the voice has no entry. No gain is among the arguments.
 unfoldable pub moved : Voice → Float → State → State
 moved v f0 s =
-    pick (eqb (v .set .count) 0) s
+    cond (eqb (v .set .count) 0) s
     (stateOf (movedPhases v f0 (s .phases)) (movedMemories v (s .rng) (s .memories)) (movedRng v (s .rng)))

@@ -35,7 +35,8 @@ pub fn play_parts<'a>(
     g3: &[f32],
     out: &mut [f32],
 ) -> Moved
-    ensures { λ r. ⌜ PlaysParts (voiceOf set (now (lists .entry)) (now (partials .entry)) (now (noise .entry)) (stateOf (now (phases .entry))
+    ensures { λ r. ⌜ PlaysParts
+        (voiceOf set (now (lists .entry)) (now (partials .entry)) (now (noise .entry)) (stateOf (now (phases .entry))
         (now (memories .entry)) rng))
         (call b (now (freq .entry)) (now (g0 .entry)) (now (g1 .entry)) (now (g2 .entry)) (now (g3 .entry)))
         (now (out .entry)) r (now (phases .exit)) (now (memories .exit)) (now (out .exit)) ⌝ }

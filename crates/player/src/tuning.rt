@@ -1,12 +1,11 @@
 // What a frequency decides: the steps and fades of the partials, and the coefficients between its two sides.
 // It is kept while the frequency stays.
 ghost use mathlib.Core.Path.{_≡_};
-ghost use mathlib.Core.Bool.{true};
+ghost use mathlib.Core.Bool.{true, cond};
 ghost use Prim.Native.Nat.{_≤_, _<_, _+_};
 ghost use lib.ListN.{getD};
 ghost use lib.Dec.{eqb};
 ghost use lib.Ieee.{nan, eq};
-ghost use Rattle.wire.specs.Parse.{pick};
 ghost use Rattle.float.specs.inner.Range.{Within};
 ghost use Rattle.voice.specs.Lists.{every};
 ghost use Rattle.player.specs.Phase.{partialFreq, stepOf};
@@ -118,7 +117,7 @@ fn rows_of(rows: &mut [f32; 128], partials: &[f32; 2048], s: Sides, k: usize, m:
 // A single voice has one row of coefficients, a blend one for each channel.
 fn rows_in(blend: u32, k: usize) -> usize
     requires { ⌜ k ≤ maxBlended ⌝ }
-    ensures { λ r. ⌜ (r ≡ pick (eqb blend 0) 1 k) × (r ≤ maxBlended) ⌝ }
+    ensures { λ r. ⌜ (r ≡ cond (eqb blend 0) 1 k) × (r ≤ maxBlended) ⌝ }
 {
     if blend == 0 { 1 } else { k }
 }

@@ -1,11 +1,12 @@
 -- Each answer of the table has a number and values of its own: what the contracts say of an answer fixes it. Assumes nothing.
+use mathlib.Core.Bool.{cond}
 use Prim.Native.Nat.{ℕ}
 use mathlib.Core.Path.{_≡_, refl, ap, sym, _∙_}
 use mathlib.Core.List.{List}
 use mathlib.Core.Option.{Option, some, none}
 use native.Mathlib.Omega.{arith}
 use lib.Dec.{eqb}
-use Rattle.wire.specs.Parse.{Refusal, Parsed, ok, refused, pick}
+use Rattle.wire.specs.Parse.{Refusal, Parsed, ok, refused}
 use Rattle.table.specs.declared.desk.DeskRead.{DeskRead}
 use Rattle.table.specs.declared.entry.EntryView.{EntryView}
 use Rattle.table.specs.declared.entry.EntryRead.{EntryRead}
@@ -28,12 +29,12 @@ apart f back is x y e = sym (is x) ∙ ap back e ∙ is y
 -- the error with a number and its values
 abbrev errorOf : Refusal → CoeffTableCodecError
 errorOf r =
-    pick (eqb (r .number) 1) CoeffTableCodecError.TooLong
-    (pick (eqb (r .number) 3) CoeffTableCodecError.BadMagic
-    (pick (eqb (r .number) 4) (CoeffTableCodecError.UnsupportedVersion (r .first))
-    (pick (eqb (r .number) 5) CoeffTableCodecError.BadUtf8
-    (pick (eqb (r .number) 6) (CoeffTableCodecError.MalformedEntry (r .first))
-    (pick (eqb (r .number) 7) (CoeffTableCodecError.InconsistentNoiseBandSpan (r .first) (r .second))
+    cond (eqb (r .number) 1) CoeffTableCodecError.TooLong
+    (cond (eqb (r .number) 3) CoeffTableCodecError.BadMagic
+    (cond (eqb (r .number) 4) (CoeffTableCodecError.UnsupportedVersion (r .first))
+    (cond (eqb (r .number) 5) CoeffTableCodecError.BadUtf8
+    (cond (eqb (r .number) 6) (CoeffTableCodecError.MalformedEntry (r .first))
+    (cond (eqb (r .number) 7) (CoeffTableCodecError.InconsistentNoiseBandSpan (r .first) (r .second))
     CoeffTableCodecError.UnexpectedEof)))))
 
 error-back : (e : CoeffTableCodecError) → errorOf (refusalOf e) ≡ e
@@ -61,7 +62,7 @@ reading-apart a b e = apart readingParsed readingOf reading-back a b e
 
 abbrev rewritingOf : Parsed ℕ → Rewriting
 rewritingOf (ok n bytes) = Rewriting.Written n bytes
-rewritingOf (refused r) = pick (eqb (r .number) 17) Rewriting.TargetTooShort (Rewriting.Refused (errorOf r))
+rewritingOf (refused r) = cond (eqb (r .number) 17) Rewriting.TargetTooShort (Rewriting.Refused (errorOf r))
 
 rewriting-refused : (e : CoeffTableCodecError) → rewritingOf (refused (refusalOf e)) ≡ Rewriting.Refused e
 rewriting-refused CoeffTableCodecError.TooLong = refl

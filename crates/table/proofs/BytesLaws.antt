@@ -2,26 +2,25 @@
 use Prim.Native.Nat.{ℕ, suc, _+_, _-_, _≤_, _<_}
 use mathlib.Core.Path.{_≡_, refl, ap, sym, _∙_}
 use mathlib.Core.List.{List, [], _∷_}
-use mathlib.Core.Bool.{Bool, true, false, not}
+use mathlib.Core.Bool.{Bool, true, false, not, cond}
 use native.Mathlib.Omega.{arith}
 use native.Mathlib.Numerals.{add-one}
 use lib.ListN.{length, getD, take, drop, length-drop, drop-of-length-le}
 use lib.Seq.{drop-cons, take-nil, take-all}
 use lib.Dec.{eqb}
 use borrow.Author.Tests.{ne-eqb, eq-eqb}
-use Rattle.wire.specs.Parse.{pick}
 use Rattle.table.specs.Table.{same}
 
-pick-false : (b : Bool) → pick b false false ≡ false
-pick-false true = refl
-pick-false false = refl
+cond-false : (b : Bool) → cond b false false ≡ false
+cond-false true = refl
+cond-false false = refl
 
 pub same-unlike : (xs ys : List ℕ) → (length xs ≡ length ys → ⊥) → same xs ys ≡ false
 unfolding same
 same-unlike [] [] h = absurd (h refl)
 same-unlike [] (b ∷ ys) h = refl
 same-unlike (a ∷ xs) [] h = refl
-same-unlike (a ∷ xs) (b ∷ ys) h = rw (same-unlike xs ys (λ e. h (ap suc e))) (pick-false (eqb a b))
+same-unlike (a ∷ xs) (b ∷ ys) h = rw (same-unlike xs ys (λ e. h (ap suc e))) (cond-false (eqb a b))
 
 -- from index i on, by the bytes there
 pub same-go : (a b : List ℕ) (i : ℕ) → i < length a → i < length b → getD a i 0 ≡ getD b i 0 → same (drop i a) (drop i b) ≡ same (drop (i + 1) a) (drop (i + 1) b)

@@ -8,7 +8,7 @@ use lib.ListN.{length, getD, drop, length-drop}
 use lib.Seq.{length-take-le, getD-take, getD-drop, ext-getD}
 use lib.Dec.{eqb}
 use borrow.Author.Tests.{le-leb}
-use Rattle.wire.specs.Parse.{Refusal, refusal, Parser, ok, ask, pure, _>>=_, _>>_, many}
+use Rattle.wire.specs.Parse.{Refusal, refusal, Parser, ok, require, pure, _>>=_, _>>_, many}
 use Rattle.wire.specs.Cursor.{Place, part, le32, u32, stringOf, string}
 use Rattle.wire.specs.Utf8.{utf8}
 use Rattle.wire.proofs.Found.{u32-got, u32-is, string-is, IsString}
@@ -46,7 +46,7 @@ module _ (s u : List ℕ) where
   local-pure : {A : Type 0} (a : A) → Local s u (pure a)
   local-pure a at e b h = let z : at ≡ e = cc in record { order = omega arith; again = λ k l. h }
 
-  local-ask : (b : Bool) (r : Refusal) → Local s u (ask b r)
+  local-ask : (b : Bool) (r : Refusal) → Local s u (require b r)
   local-ask b r at e x h = let z = asked-ok b at e r x h in record { order = omega arith; again = λ k l. h }
 
   local-many : {A : Type 0} (p : ℕ → Parser A) → ((i : ℕ) → Local s u (p i)) → (n i : ℕ) → Local s u (many p i n)
@@ -131,7 +131,7 @@ module _ (s u : List ℕ) where
       local-bind counted _ local-counted λ cs.
       local-bind u32 _ local-u32 λ q.
       local-bind (pairs q) _ (local-many (λ i. pair) (λ i. local-pair) q 0) λ ms.
-      local-seq (ask (eqb (k * (length fs + j)) (length cs)) (refusal 6 i 0)) _ (local-ask (eqb (k * (length fs + j)) (length cs)) (refusal 6 i 0))
+      local-seq (require (eqb (k * (length fs + j)) (length cs)) (refusal 6 i 0)) _ (local-ask (eqb (k * (length fs + j)) (length cs)) (refusal 6 i 0))
       (local-pure (record { f0Hz = f; stretch = st; partialFreqs = fs; kChannels = k; jNoise = j; coefficients = cs; metadata = ms }))
 
   pub local-entries : (n : ℕ) → Local s u (many entry 0 n)

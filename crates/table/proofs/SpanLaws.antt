@@ -2,13 +2,13 @@
 use Prim.Native.Nat.{ℕ, suc, _+_, _-_, _%_, _≤_, _<_}
 use mathlib.Core.Path.{_≡_, refl, ap, sym, _∙_}
 use mathlib.Core.List.{List, [], _∷_}
-use mathlib.Core.Bool.{Bool, true, false, _&&_}
+use mathlib.Core.Bool.{Bool, true, false, _&&_, cond}
 use native.Mathlib.Omega.{arith}
 use lib.ListN.{length}
 use lib.Ieee.{Float, nan, inf, fin, binary32, eq, isNan, ofBits, nanBits}
 use lib.Ieee.Bits.{nanBits-is, nanBits-above}
 use borrow.Author.Tests.{lt-ltb, le-ltb}
-use Rattle.wire.specs.Parse.{Refusal, Parsed, ok, refused, then, many, pick}
+use Rattle.wire.specs.Parse.{Refusal, Parsed, ok, refused, then, many}
 use Rattle.wire.proofs.Many.{many-go, many-no, many-end}
 use Rattle.table.specs.declared.span.Span.{Span}
 use Rattle.table.specs.declared.span.Baseline.{Baseline}
@@ -45,7 +45,7 @@ nan-right (fin s m e) (fin t n d) h = absurd (true-false h)
 
 -- one entry more: the verdict from what the pass held before it is the one from what it holds after
 by-equality : (b : Bool) (x y : ℕ) (i : ℕ) (es : List PitchEntry)
-    → pick b (agree (Span.Both x y) (i + 1) es) (inconsistent 0 i) ≡ verdictFrom (pick b (Baseline.Both x y) (Baseline.Broken 0 i)) (i + 1) es
+    → cond b (agree (Span.Both x y) (i + 1) es) (inconsistent 0 i) ≡ verdictFrom (cond b (Baseline.Both x y) (Baseline.Broken 0 i)) (i + 1) es
 unfolding verdictFrom
 by-equality true x y i es = refl
 by-equality false x y i es = refl

@@ -2,14 +2,14 @@
 use Prim.Native.Nat.{ℕ, zero, suc, _+_, _-_, _*_, _/_, _%_, _≤_, _<_}
 use mathlib.Core.Path.{_≡_, refl, ap, sym, _∙_}
 use mathlib.Core.List.{List, [], _∷_, _++_}
-use mathlib.Core.Bool.{Bool, true, false}
+use mathlib.Core.Bool.{Bool, true, false, cond}
 use native.Mathlib.Omega.{arith}
 use native.Mathlib.Numerals.{add-one, add-two, add-three}
 use lib.ListN.{length, getD, take, drop, length-drop}
 use lib.Seq.{drop-cons, drop-drop, take-add, length-take-le}
 use lib.Dec.{eqb, leb}
 use borrow.Author.Tests.{eqb-true, leb-true}
-use Rattle.wire.specs.Parse.{refusal, Parser, ok, asked, pick, then, many}
+use Rattle.wire.specs.Parse.{refusal, Parser, ok, asked, then, many}
 use Rattle.wire.specs.Cursor.{part, le16, le32, takeAt, u16, u32, string}
 use Rattle.wire.proofs.Found.{u32-is, u16-is, take-is, string-is}
 use Rattle.wire.proofs.Many.{went, asked-ok, many-length}
@@ -146,7 +146,7 @@ same-eq [] (b ∷ ys) h = let z : _≡_ {A = ℕ} 0 1 = cc in absurd (omega arit
 same-eq (a ∷ xs) [] h = let z : _≡_ {A = ℕ} 0 1 = cc in absurd (omega arith)
 same-eq (a ∷ xs) (b ∷ ys) h = go (eqb a b) refl h (same-eq xs ys)
   where
-    go : (t : Bool) → eqb a b ≡ t → pick t (same xs ys) false ≡ true → (same xs ys ≡ true → xs ≡ ys) → a ∷ xs ≡ b ∷ ys
+    go : (t : Bool) → eqb a b ≡ t → cond t (same xs ys) false ≡ true → (same xs ys ≡ true → xs ≡ ys) → a ∷ xs ≡ b ∷ ys
     go true e k ih = let p : a ≡ b = eqb-true a b e in let q : xs ≡ ys = ih k in cc
     go false e k ih = let z : _≡_ {A = ℕ} 0 1 = cc in absurd (omega arith)
 

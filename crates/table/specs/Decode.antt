@@ -3,7 +3,7 @@ use Prim.Native.Nat.{ℕ}
 use mathlib.Core.List.{List, []}
 use lib.ListN.{length}
 use lib.Dec.{leb}
-use Rattle.wire.specs.Parse.{refusal, Parsed, ok, refused, Parser, pure, _>>=_, _>>_, ask}
+use Rattle.wire.specs.Parse.{refusal, Parsed, ok, refused, Parser, pure, _>>=_, _>>_, require}
 use Rattle.table.specs.Table.{CoeffTable, PitchEntry}
 use Rattle.table.specs.Image.{header, entries}
 use Rattle.table.specs.Span.{askSpans}
@@ -15,7 +15,7 @@ size s at = ok (length s) at
 abbrev pub table : Parser CoeffTable
 table = do
   z ← size
-  ask (leb z 65536) (refusal 1 0 0)
+  require (leb z 65536) (refusal 1 0 0)
   h ← header
   es ← entries (h .count)
   askSpans es

@@ -1,10 +1,11 @@
 -- What the desk gets after questions 1 to 7: a voice's band count, and the noise-band span from the table's first entry.
+use mathlib.Core.Bool.{cond}
 use Prim.Native.Nat.{ℕ, max}
 use mathlib.Core.List.{List, [], _∷_}
 use mathlib.Core.Option.{Option, some, none}
 use lib.IntN.{pos}
 use lib.Ieee.{binary32, ofInt, toBits}
-use Rattle.wire.specs.Parse.{Refusal, Parsed, ok, refused, pick}
+use Rattle.wire.specs.Parse.{Refusal, Parsed, ok, refused}
 use Rattle.table.specs.declared.desk.Kind.{Kind}
 use Rattle.table.specs.declared.desk.Desk.{Desk}
 use Rattle.table.specs.declared.desk.DeskRead.{DeskRead}
@@ -14,7 +15,7 @@ use Rattle.table.specs.Answer.{refusalOf}
 
 -- an entry's bands for a voice: a single voice of channel c has none from an entry without channel c, a blend has all
 abbrev pub bandsOf : Kind → PitchEntry → ℕ
-bandsOf (Kind.Single c) e = pick (hasChannel e c) (e .jNoise) 0
+bandsOf (Kind.Single c) e = cond (hasChannel e c) (e .jNoise) 0
 bandsOf Kind.Blend e = e .jNoise
 
 -- a voice's j: the largest of them, 0 for none

@@ -3,7 +3,7 @@ use Prim.Native.Nat.{ℕ, _+_, _*_}
 use mathlib.Core.List.{List, [], _∷_}
 use lib.ListN.{length}
 use lib.Dec.{leb, eqb}
-use Rattle.wire.specs.Parse.{refusal, ok, Parser, pure, _>>=_, _>>_, ask, many}
+use Rattle.wire.specs.Parse.{refusal, ok, Parser, pure, _>>=_, _>>_, require, many}
 use Rattle.wire.specs.Cursor.{part, takeAt, u16, u32, string}
 use Rattle.table.specs.Table.{Pair, PitchEntry, same}
 
@@ -43,7 +43,7 @@ entry i = do
   cs ← counted
   q ← u32
   ms ← pairs q
-  ask (eqb (k * (length fs + j)) (length cs)) (refusal 6 i 0)
+  require (eqb (k * (length fs + j)) (length cs)) (refusal 6 i 0)
   pure (record { f0Hz = f; stretch = st; partialFreqs = fs; kChannels = k; jNoise = j; coefficients = cs; metadata = ms })
 
 abbrev pub entries : ℕ → Parser (List PitchEntry)
@@ -63,9 +63,9 @@ unfoldable pub header : Parser Header
 header = do
   p ← takeAt 4
   m ← bytesAt p 4
-  ask (same m magic) (refusal 3 0 0)
+  require (same m magic) (refusal 3 0 0)
   v ← u16
-  ask (leb v 1) (refusal 4 v 0)
+  require (leb v 1) (refusal 4 v 0)
   t ← text
   n ← u32
   pure (record { version = v; name = t; count = n })

@@ -1,19 +1,19 @@
 -- Question 7: has each entry both or neither of `noise_band_min_hz` and `noise_band_max_hz`, equal as floats to the first entry's?
 use Prim.Native.Nat.{ℕ, _+_}
 use mathlib.Core.List.{List, [], _∷_}
-use mathlib.Core.Bool.{Bool, true, _&&_}
+use mathlib.Core.Bool.{Bool, true, _&&_, cond}
 use mathlib.Core.Option.{Option, some, none}
 use lib.Ieee.{eq, ofBits, binary32}
-use Rattle.wire.specs.Parse.{Refusal, refusal, Parsed, ok, refused, Parser, pick}
+use Rattle.wire.specs.Parse.{Refusal, refusal, Parsed, ok, refused, Parser}
 use Rattle.table.specs.Table.{PitchEntry, metadataValue}
 use Rattle.table.specs.declared.span.Span.{Span}
 
 -- "noise_band_min_hz" and "noise_band_max_hz"
 abbrev pub minKey : List ℕ
-minKey = 110 ∷ 111 ∷ 105 ∷ 115 ∷ 101 ∷ 95 ∷ 98 ∷ 97 ∷ 110 ∷ 100 ∷ 95 ∷ 109 ∷ 105 ∷ 110 ∷ 95 ∷ 104 ∷ 122 ∷ []
+minKey = 0x6E ∷ 0x6F ∷ 0x69 ∷ 0x73 ∷ 0x65 ∷ 0x5F ∷ 0x62 ∷ 0x61 ∷ 0x6E ∷ 0x64 ∷ 0x5F ∷ 0x6D ∷ 0x69 ∷ 0x6E ∷ 0x5F ∷ 0x68 ∷ 0x7A ∷ []
 
 abbrev pub maxKey : List ℕ
-maxKey = 110 ∷ 111 ∷ 105 ∷ 115 ∷ 101 ∷ 95 ∷ 98 ∷ 97 ∷ 110 ∷ 100 ∷ 95 ∷ 109 ∷ 97 ∷ 120 ∷ 95 ∷ 104 ∷ 122 ∷ []
+maxKey = 0x6E ∷ 0x6F ∷ 0x69 ∷ 0x73 ∷ 0x65 ∷ 0x5F ∷ 0x62 ∷ 0x61 ∷ 0x6E ∷ 0x64 ∷ 0x5F ∷ 0x6D ∷ 0x61 ∷ 0x78 ∷ 0x5F ∷ 0x68 ∷ 0x7A ∷ []
 
 -- the two keys of an entry: both with their values, neither, or a lone one
 abbrev pub spanFrom : Option ℕ → Option ℕ → Span
@@ -44,7 +44,7 @@ beside first i Span.Lone rest = inconsistent i i
 beside Span.Neither i Span.Neither rest = rest
 beside Span.Neither i (Span.Both a b) rest = inconsistent 0 i
 beside (Span.Both x y) i Span.Neither rest = inconsistent 0 i
-beside (Span.Both x y) i (Span.Both a b) rest = pick (floatEq x a && floatEq y b) rest (inconsistent 0 i)
+beside (Span.Both x y) i (Span.Both a b) rest = cond (floatEq x a && floatEq y b) rest (inconsistent 0 i)
 beside Span.Lone i Span.Neither rest = inconsistent 0 i
 beside Span.Lone i (Span.Both a b) rest = inconsistent 0 i
 

@@ -2,11 +2,10 @@
 -- Floats are their 32-bit patterns, so that a NaN keeps its payload; a name and a key are their bytes.
 use Prim.Native.Nat.{ℕ, _+_, _*_}
 use mathlib.Core.List.{List, [], _∷_}
-use mathlib.Core.Bool.{Bool, true, false}
+use mathlib.Core.Bool.{Bool, true, false, cond}
 use mathlib.Core.Option.{Option, some, none}
 use lib.ListN.{length, getD}
 use lib.Dec.{ltb, eqb}
-use Rattle.wire.specs.Parse.{pick}
 
 -- a pair of the metadata: a key and its value
 pub record Pair : Type 0 where
@@ -43,16 +42,16 @@ hasChannel e c = ltb c (e .kChannels)
 -- the coefficient of channel c at a column of its row; 0 where the entry has no such channel or column
 unfoldable pub coefficientAt : PitchEntry → ℕ → ℕ → ℕ
 coefficientAt e c column =
-    pick (hasChannel e c) (pick (ltb column (width e)) (getD (e .coefficients) (c * width e + column) 0) 0) 0
+    cond (hasChannel e c) (cond (ltb column (width e)) (getD (e .coefficients) (c * width e + column) 0) 0) 0
 
 -- two lists of bytes are the same
 unfoldable pub same : List ℕ → List ℕ → Bool
 same [] [] = true
 same [] (b ∷ ys) = false
 same (a ∷ xs) [] = false
-same (a ∷ xs) (b ∷ ys) = pick (eqb a b) (same xs ys) false
+same (a ∷ xs) (b ∷ ys) = cond (eqb a b) (same xs ys) false
 
 -- the value of a key: of equal keys the first counts
 unfoldable pub metadataValue : List ℕ → List Pair → Option ℕ
 metadataValue key [] = none
-metadataValue key (p ∷ ps) = pick (same (p .key) key) (some (p .value)) (metadataValue key ps)
+metadataValue key (p ∷ ps) = cond (same (p .key) key) (some (p .value)) (metadataValue key ps)

@@ -2,12 +2,12 @@
 use Prim.Native.Nat.{ℕ, _+_, _≤_, _<_}
 use mathlib.Core.Path.{_≡_, refl}
 use mathlib.Core.List.{List}
-use mathlib.Core.Bool.{Bool, true, false}
+use mathlib.Core.Bool.{Bool, true, false, cond}
 use native.Mathlib.Omega.{arith}
 use lib.ListN.{length}
 use lib.Dec.{leb}
 use borrow.Author.Tests.{le-leb, lt-leb, leb-true, leb-false}
-use Rattle.wire.specs.Parse.{Refusal, Parsed, ok, refused, pick, then}
+use Rattle.wire.specs.Parse.{Refusal, Parsed, ok, refused, then}
 use Rattle.wire.specs.Utf8.{utf8}
 use Rattle.wire.specs.Cursor.{Place, place, part, le16, le32, takeAt, u16, u32, stringOf, string, unexpectedEof, badUtf8}
 
@@ -21,24 +21,24 @@ u32-short s at h = simp (lt-leb (at + 4) (length s) h)
 
 -- a field of a fixed size that was read: its bytes are there, its value, and where it ends
 module _ {A : Type 0} (b : Bool) (v a : A) (n e : ℕ) (r : Refusal) where
-  pub field-there : pick b (ok v n) (refused r) ≡ ok a e → b ≡ true
+  pub field-there : cond b (ok v n) (refused r) ≡ ok a e → b ≡ true
   field-there h = go b h
     where
-      go : (t : Bool) → pick t (ok v n) (refused r) ≡ ok a e → t ≡ true
+      go : (t : Bool) → cond t (ok v n) (refused r) ≡ ok a e → t ≡ true
       go true p = refl
       go false p = let z : _≡_ {A = ℕ} 0 1 = cc in absurd (omega arith)
 
-  pub field-value : pick b (ok v n) (refused r) ≡ ok a e → a ≡ v
+  pub field-value : cond b (ok v n) (refused r) ≡ ok a e → a ≡ v
   field-value h = go b h
     where
-      go : (t : Bool) → pick t (ok v n) (refused r) ≡ ok a e → a ≡ v
+      go : (t : Bool) → cond t (ok v n) (refused r) ≡ ok a e → a ≡ v
       go true p = cc
       go false p = let z : _≡_ {A = ℕ} 0 1 = cc in absurd (omega arith)
 
-  pub field-end : pick b (ok v n) (refused r) ≡ ok a e → e ≡ n
+  pub field-end : cond b (ok v n) (refused r) ≡ ok a e → e ≡ n
   field-end h = go b h
     where
-      go : (t : Bool) → pick t (ok v n) (refused r) ≡ ok a e → e ≡ n
+      go : (t : Bool) → cond t (ok v n) (refused r) ≡ ok a e → e ≡ n
       go true p = cc
       go false p = let z : _≡_ {A = ℕ} 0 1 = cc in absurd (omega arith)
 
@@ -86,7 +86,7 @@ pub take-short : (s : List ℕ) (at n : ℕ) (r : Refusal) → takeAt n s at ≡
 unfolding takeAt
 take-short s at n r h = go (leb (at + n) (length s)) refl h
   where
-    go : (b : Bool) → leb (at + n) (length s) ≡ b → pick b (ok at (at + n)) (refused unexpectedEof) ≡ refused r → length s < at + n
+    go : (b : Bool) → leb (at + n) (length s) ≡ b → cond b (ok at (at + n)) (refused unexpectedEof) ≡ refused r → length s < at + n
     go true e p = let z : _≡_ {A = ℕ} 0 1 = cc in absurd (omega arith)
     go false e p = leb-false _ _ e
 
@@ -102,7 +102,7 @@ unfolding string stringOf
 string-is s at next p h = go (u32 s at) refl h
   where
     took : (k d : ℕ) → u32 s at ≡ ok k d → (b v : Bool) → leb (d + k) (length s) ≡ b → utf8 (part s d k) ≡ v
-        → pick b (pick v (ok (place d k) (d + k)) (refused badUtf8)) (refused unexpectedEof) ≡ ok p next → IsString s at next p
+        → cond b (cond v (ok (place d k) (d + k)) (refused badUtf8)) (refused unexpectedEof) ≡ ok p next → IsString s at next p
     took k d g true true e f h =
         let i = u32-is s at k d g in
         let x : place d k ≡ p = cc in

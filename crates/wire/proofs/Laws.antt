@@ -2,7 +2,7 @@
 use Prim.Native.Nat.{ℕ, zero, suc, _+_, _-_, _≤_, _<_}
 use mathlib.Core.Path.{_≡_, refl, ap, sym, _∙_}
 use mathlib.Core.List.{List, []}
-use mathlib.Core.Bool.{Bool, true, false, _&&_}
+use mathlib.Core.Bool.{Bool, true, false, _&&_, cond}
 use native.Mathlib.Omega.{arith}
 use native.Mathlib.Numerals.{add-one}
 use native.Mathlib.Nat.{add-sub-cancel-left}
@@ -11,9 +11,9 @@ use lib.Seq.{drop-cons}
 use lib.Dec.{leb, eqb}
 use borrow.Author.Tests.{le-leb, lt-leb, ne-eqb}
 use Rattle.wire.specs.declared.utf8.Rest.{Rest}
-use Rattle.wire.specs.Parse.{ok, refused, pick}
+use Rattle.wire.specs.Parse.{ok, refused}
 use Rattle.wire.specs.Utf8.{Octets, Next, follow, bad, chars, lead, octet, onto, octets, utf8}
-use Rattle.wire.specs.inner.Utf8State.{restOf, ranges, Upto}
+use Rattle.wire.specs.inner.Utf8State.{octetsLeft, ranges, ValidUpTo}
 use Rattle.wire.specs.Cursor.{place, part, stringOf, badUtf8}
 
 -- whether n bytes are there, by the tests that the code makes
@@ -43,7 +43,7 @@ unfolding octet lead
 ascii-octet b h = simp (le-leb b 0x7f (omega arith), le-leb 0x0 b (omega arith))
 
 -- and n of them are passed over
-pub octets-plain : (s : List ℕ) (n i b : ℕ) → i + n ≤ length s → b < 0x80 → Upto s i n b → octets (drop i s) [] ≡ octets (drop (i + n) s) []
+pub octets-plain : (s : List ℕ) (n i b : ℕ) → i + n ≤ length s → b < 0x80 → ValidUpTo s i n b → octets (drop i s) [] ≡ octets (drop (i + n) s) []
 octets-plain s zero i b h u f = ap (λ (k : ℕ). octets (drop k s) []) (none i)
   where
     none : (i : ℕ) → i ≡ i + 0
@@ -59,8 +59,8 @@ octets-plain s (suc n) i b h u f =
     next : (i n : ℕ) → i + n + 1 ≡ i + suc n
     next i n = omega arith
 
-whole : (n lo hi : ℕ) → octets [] (restOf n lo hi) ≡ eqb n 0
-unfolding octets restOf
+whole : (n lo hi : ℕ) → octets [] (octetsLeft n lo hi) ≡ eqb n 0
+unfolding octets octetsLeft
 whole zero lo hi = refl
 whole (suc n) lo hi = sym (ne-eqb (suc n) 0 (λ e. absurd (omega arith)))
 
@@ -81,8 +81,8 @@ module _ (s : List ℕ) (at n : ℕ) (p : at ≤ length s) (q : n ≤ length s -
   string-bad e = simp (room at n (length s) p q, sym tested ∙ e)
 
 -- one byte more, by the tests that the code makes
-octet-inside : (n lo hi b : ℕ) → lo ≤ b → b ≤ hi → octet (restOf (suc n) lo hi) b ≡ follow (restOf n 0x80 0xBF)
-unfolding octet restOf
+octet-inside : (n lo hi b : ℕ) → lo ≤ b → b ≤ hi → octet (octetsLeft (suc n) lo hi) b ≡ follow (octetsLeft n 0x80 0xBF)
+unfolding octet octetsLeft
 octet-inside n lo hi b l h = rw (le-leb b hi h, le-leb lo b l) refl
 
 module _ (t : Rest) (b : ℕ) where
@@ -90,24 +90,24 @@ module _ (t : Rest) (b : ℕ) where
   one-more n = omega arith
 
   pub octet-lead : t .left ≡ 0 → octet (ranges t) b ≡ lead chars b
-  unfolding octet restOf
+  unfolding octet octetsLeft
   octet-lead e = rw e refl
 
   pub octet-plain : t .left ≡ 0 → b < 0x80 → octet (ranges t) b ≡ follow (ranges t)
-  unfolding octet restOf
+  unfolding octet octetsLeft
   octet-plain e h = rw e (ascii-octet b h)
 
   pub octet-low : (t .left ≡ 0 → ⊥) → b < t .low → octet (ranges t) b ≡ bad
-  unfolding octet restOf
+  unfolding octet octetsLeft
   octet-low n h = rw (one-more n) (go (leb b (t .high)))
     where
-      go : (v : Bool) → pick (v && leb (t .low) b) (follow (restOf (t .left - 1) 0x80 0xBF)) bad ≡ bad
+      go : (v : Bool) → cond (v && leb (t .low) b) (follow (octetsLeft (t .left - 1) 0x80 0xBF)) bad ≡ bad
       go true = simp (lt-leb (t .low) b h)
       go false = refl
 
   pub octet-high : (t .left ≡ 0 → ⊥) → t .high < b → octet (ranges t) b ≡ bad
-  unfolding octet restOf
+  unfolding octet octetsLeft
   octet-high n h = rw (one-more n, lt-leb b (t .high) h) refl
 
-  pub octet-in : (t .left ≡ 0 → ⊥) → t .low ≤ b → b ≤ t .high → octet (ranges t) b ≡ follow (restOf (t .left - 1) 0x80 0xBF)
-  octet-in n l h = ap (λ (k : ℕ). octet (restOf k (t .low) (t .high)) b) (one-more n) ∙ octet-inside (t .left - 1) (t .low) (t .high) b l h
+  pub octet-in : (t .left ≡ 0 → ⊥) → t .low ≤ b → b ≤ t .high → octet (ranges t) b ≡ follow (octetsLeft (t .left - 1) 0x80 0xBF)
+  octet-in n l h = ap (λ (k : ℕ). octet (octetsLeft k (t .low) (t .high)) b) (one-more n) ∙ octet-inside (t .left - 1) (t .low) (t .high) b l h

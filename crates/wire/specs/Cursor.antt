@@ -1,5 +1,6 @@
 -- What stands at a position of the image: little-endian numbers, parts and strings, each with its questions.
 -- Every answer of the code that is an enum is given its value and next position, or its refusal, by a definition here.
+use mathlib.Core.Bool.{cond}
 use Prim.Native.Nat.{ℕ, _+_, _*_}
 use mathlib.Core.List.{List}
 use lib.ListN.{length, getD, take, drop}
@@ -8,7 +9,7 @@ use Rattle.wire.specs.declared.cursor.Taken.{Taken}
 use Rattle.wire.specs.declared.cursor.U16Read.{U16Read}
 use Rattle.wire.specs.declared.cursor.U32Read.{U32Read}
 use Rattle.wire.specs.declared.cursor.StringRead.{StringRead}
-use Rattle.wire.specs.Parse.{Refusal, refusal, Parsed, ok, refused, Parser, pick, _>>=_}
+use Rattle.wire.specs.Parse.{Refusal, refusal, Parsed, ok, refused, Parser, _>>=_}
 use Rattle.wire.specs.Utf8.{utf8}
 
 -- question 2: are the bytes that the field needs there? Question 5: is the string UTF-8?
@@ -31,13 +32,13 @@ le32 s at = getD s at 0 + 256 * getD s (at + 1) 0 + 65536 * getD s (at + 2) 0 + 
 
 -- n bytes: the value is where they start
 unfoldable pub takeAt : ℕ → Parser ℕ
-takeAt n s at = pick (leb (at + n) (length s)) (ok at (at + n)) (refused unexpectedEof)
+takeAt n s at = cond (leb (at + n) (length s)) (ok at (at + n)) (refused unexpectedEof)
 
 unfoldable pub u16 : Parser ℕ
-u16 s at = pick (leb (at + 2) (length s)) (ok (le16 s at) (at + 2)) (refused unexpectedEof)
+u16 s at = cond (leb (at + 2) (length s)) (ok (le16 s at) (at + 2)) (refused unexpectedEof)
 
 unfoldable pub u32 : Parser ℕ
-u32 s at = pick (leb (at + 4) (length s)) (ok (le32 s at) (at + 4)) (refused unexpectedEof)
+u32 s at = cond (leb (at + 4) (length s)) (ok (le32 s at) (at + 4)) (refused unexpectedEof)
 
 -- where a string's bytes stand in the image
 pub record Place : Type 0 where
@@ -50,8 +51,8 @@ place at n = record { start = at; len = n }
 -- a string of n bytes, and one with its length before it
 unfoldable pub stringOf : ℕ → Parser Place
 stringOf n s at =
-    pick (leb (at + n) (length s))
-    (pick (utf8 (part s at n)) (ok (place at n) (at + n)) (refused badUtf8))
+    cond (leb (at + n) (length s))
+    (cond (utf8 (part s at n)) (ok (place at n) (at + n)) (refused badUtf8))
     (refused unexpectedEof)
 
 unfoldable pub string : Parser Place

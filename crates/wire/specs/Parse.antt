@@ -2,7 +2,7 @@
 -- past it, or a refusal. The definitions of the wire and of the table are written with it, each question where it is asked.
 use Prim.Native.Nat.{ℕ, zero, suc, _+_}
 use mathlib.Core.List.{List, [], _∷_}
-use mathlib.Core.Bool.{Bool, true, false}
+use mathlib.Core.Bool.{Bool, true, false, cond}
 
 -- a refusal: the number of the question that was answered no, and the values that it names (0 where it names none)
 pub record Refusal : Type 0 where
@@ -19,11 +19,6 @@ pub data Parsed (A : Type 0) : Type 0 where
 
 abbrev pub Parser : Type 0 → Type 0
 Parser A = List ℕ → ℕ → Parsed A
-
--- one of two, by a test
-abbrev pub pick : {A : Type 0} → Bool → A → A → A
-pick true a b = a
-pick false a b = b
 
 -- what follows a value; a refusal ends the reading
 abbrev pub then : {A B : Type 0} → Parsed A → (A → ℕ → Parsed B) → Parsed B
@@ -46,8 +41,8 @@ abbrev pub asked : Bool → ℕ → Refusal → Parsed Bool
 asked true at r = ok true at
 asked false at r = refused r
 
-abbrev pub ask : Bool → Refusal → Parser Bool
-ask b r s at = asked b at r
+abbrev pub require : Bool → Refusal → Parser Bool
+require b r s at = asked b at r
 
 -- n things one after the other; each is told its index, counted from i
 unfoldable pub many : {A : Type 0} → (ℕ → Parser A) → ℕ → ℕ → Parser (List A)

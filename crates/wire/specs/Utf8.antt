@@ -1,9 +1,8 @@
 -- UTF-8: the syntax of RFC 3629, section 4.
 use Prim.Native.Nat.{ℕ}
 use mathlib.Core.List.{List, [], _∷_}
-use mathlib.Core.Bool.{Bool, true, false, _&&_}
+use mathlib.Core.Bool.{Bool, true, false, _&&_, cond}
 use lib.Dec.{leb}
-use Rattle.wire.specs.Parse.{pick}
 
 -- the octets from `low` to `high`, which the RFC writes %xLOW-HIGH
 pub record Octets : Type 0 where
@@ -13,8 +12,8 @@ pub record Octets : Type 0 where
 abbrev pub range : ℕ → ℕ → Octets
 range lo hi = record { low = lo; high = hi }
 
-abbrev pub holds : Octets → ℕ → Bool
-holds r b = leb b (r .high) && leb (r .low) b
+abbrev pub octetsHold : Octets → ℕ → Bool
+octetsHold r b = leb b (r .high) && leb (r .low) b
 
 -- UTF8-tail = %x80-BF
 abbrev pub tail : Octets
@@ -43,12 +42,12 @@ pub data Next : Type 0 where
 unfoldable pub lead : List (List Octets) → ℕ → Next
 lead [] b = bad
 lead ([] ∷ rows) b = lead rows b
-lead ((r ∷ rest) ∷ rows) b = pick (holds r b) (follow rest) (lead rows b)
+lead ((r ∷ rest) ∷ rows) b = cond (octetsHold r b) (follow rest) (lead rows b)
 
 -- one octet, where `rest` is left of the present character
 unfoldable pub octet : List Octets → ℕ → Next
 octet [] b = lead chars b
-octet (r ∷ rest) b = pick (holds r b) (follow rest) bad
+octet (r ∷ rest) b = cond (octetsHold r b) (follow rest) bad
 
 abbrev pub onto : Next → (List Octets → Bool) → Bool
 onto (follow rest) k = k rest

@@ -22,8 +22,8 @@ pub record Mag (a c : ℕ) (x : Float) : Type 0 where
   pub upper : num x * c ≤ a * den x
 
 -- x is at most y, both finite with no sign
-abbrev pub UpTo : Float → Float → Type 0
-UpTo y x = Within (num y) (den y) x
+abbrev pub AtMost : Float → Float → Type 0
+AtMost y x = Within (num y) (den y) x
 
 -- finite, with no sign, and at least a / c
 pub record AtLeast (a c : ℕ) (x : Float) : Type 0 where

@@ -1,8 +1,9 @@
 -- Entries of a table where they stand in an image, held as their views. Cited by private functions only.
+use mathlib.Core.Bool.{cond}
 use Prim.Native.Nat.{ℕ, suc}
 use mathlib.Core.List.{List, [], _∷_}
 use lib.Ieee.{Float, lt}
-use Rattle.wire.specs.Parse.{Refusal, refusal, pick}
+use Rattle.wire.specs.Parse.{Refusal, refusal}
 use Rattle.table.specs.declared.entry.EntryView.{EntryView}
 use Rattle.table.specs.declared.desk.Kind.{Kind}
 use Rattle.table.specs.Table.{PitchEntry}
@@ -20,7 +21,7 @@ valuesThen (ValuesAnswer.Bad i) rest = refusal 9 i 0
 -- how many views stand before the first of a higher pitch
 unfoldable pub placeIn : Float → List EntryView → ℕ
 placeIn f [] = 0
-placeIn f (x ∷ xs) = pick (lt f (f32 (x .«f0_hz»))) 0 (suc (placeIn f xs))
+placeIn f (x ∷ xs) = cond (lt f (f32 (x .«f0_hz»))) 0 (suc (placeIn f xs))
 
 -- questions 10 to 12
 abbrev pub laterQuestion : Kind → List PitchEntry → Float → List Float → Refusal

@@ -2,11 +2,10 @@
 use Prim.Native.Nat.{ℕ, _+_, _*_, _<_}
 use mathlib.Core.Path.{_≡_}
 use mathlib.Core.List.{List}
-use mathlib.Core.Bool.{true}
+use mathlib.Core.Bool.{true, cond}
 use lib.IntN.{pos}
 use lib.ListN.{getD}
 use lib.Ieee.{Float, nan, fin, ne}
-use Rattle.wire.specs.Parse.{pick}
 use Rattle.float.specs.F32.{_⊕_, _⊗_, nearest}
 use Rattle.filters.specs.Biquad.{tickOf}
 use Rattle.voice.specs.Lists.{steps}
@@ -50,14 +49,14 @@ pub record Ticked (ys w1 w2 z1 z2 cs : List Float) (x : Float) (n : ℕ) : Type 
 
 -- ---- what a partial or a live band adds to the sample: x where its coefficient c is not 0
 abbrev pub added : Float → Float → Float → Float
-added y c x = pick (ne c (nearest 0 1)) (y ⊕ x) y
+added y c x = cond (ne c (nearest 0 1)) (y ⊕ x) y
 
 -- the same as a number to add. Where the coefficient is 0 that is -0, which changes no float that it is added to.
 abbrev pub minusZero : Float
 minusZero = fin true 0 (pos 0)
 
 abbrev pub audible : Float → Float → Float
-audible c x = pick (ne c (nearest 0 1)) x minusZero
+audible c x = cond (ne c (nearest 0 1)) x minusZero
 
 -- what a live band adds
 unfoldable pub bandTerm : Float → Float → Float → Float → Float → Float

@@ -27,11 +27,11 @@ pub record AllCells (xs : List Float) (m : ℕ) : Type 0 where
   pub at : (i : ℕ) → i < m → Cell (getD xs i nan)
 
 -- the line from W(k) to W(k + 1): its start, and its rise, the difference taken in integers
-abbrev pub startOf : ℕ → Float
-startOf k = ofInt binary32 (waveOf k)
+abbrev pub cellStart : ℕ → Float
+cellStart k = ofInt binary32 (waveOf k)
 
-abbrev pub riseOf : ℕ → Float
-riseOf k = ofInt binary32 (waveOf (k + 1) -ℤ waveOf k)
+abbrev pub cellRise : ℕ → Float
+cellRise k = ofInt binary32 (waveOf (k + 1) -ℤ waveOf k)
 
 -- the value at the part r of a line, times 2^-23
 abbrev pub lineAt : Float → Float → Float → Float

@@ -1,10 +1,10 @@
 -- What a place of the columns, or a partial by itself, adds to the sample y.
+use mathlib.Core.Bool.{cond}
 use Prim.Native.Nat.{ℕ, _+_, _*_}
 use mathlib.Core.List.{List}
 use lib.ListN.{getD}
 use lib.Dec.{eqb}
 use lib.Ieee.{Float, nan}
-use Rattle.wire.specs.Parse.{pick}
 use Rattle.float.specs.Sqrt.{sqrt}
 use Rattle.float.specs.F32.{_⊗_, nearest}
 use Rattle.player.specs.inner.Columns.{added}
@@ -17,14 +17,14 @@ use Rattle.player.specs.declared.pitch.kept.Pitch.{Pitch}
 -- A single voice and a blend of k channels sound by one formula: a coefficient, a gain and the rest.
 -- The gain: of a single voice gain 0; of a blend 1, since the gains are in its coefficients. A product with 1 is the float itself.
 abbrev pub termGain : ℕ → List Float → Float
-termGain blend gains = pick (eqb blend 0) (getD gains 0 nan) (nearest 1 1)
+termGain blend gains = cond (eqb blend 0) (getD gains 0 nan) (nearest 1 1)
 
 -- the coefficient of a partial, and of a band, of which channel q's is `row q`
 abbrev pub partialCoeff : ℕ → ℕ → (ℕ → Float) → List Float → Float
-partialCoeff blend k row gains = pick (eqb blend 0) (row 0) (blendCoeff row gains k)
+partialCoeff blend k row gains = cond (eqb blend 0) (row 0) (blendCoeff row gains k)
 
 abbrev pub bandCoeff : ℕ → ℕ → (ℕ → Float) → List Float → Float
-bandCoeff blend k row gains = pick (eqb blend 0) (row 0) (sqrt (blendPower row gains k))
+bandCoeff blend k row gains = cond (eqb blend 0) (row 0) (sqrt (blendPower row gains k))
 
 -- partial i, where row q of the rows holds channel q's coefficients between the two sides
 abbrev pub partialAdded : ℕ → ℕ → List Float → Float → List Float → List Float → List Float → ℕ → Float → Float

@@ -1,11 +1,11 @@
 -- What a frequency decides of a sample, as columns hold it while the frequency stays. Cited by private functions only.
+use mathlib.Core.Bool.{cond}
 use mathlib.Core.Path.{_≡_}
 use mathlib.Core.List.{List}
 use Prim.Native.Nat.{ℕ, _+_}
 use lib.ListN.{getD}
 use lib.Dec.{eqb}
 use lib.Ieee.{Float, nan, le}
-use Rattle.wire.specs.Parse.{pick}
 use Rattle.float.specs.F32.{nearest}
 use Rattle.player.specs.inner.Columns.{Filled, FilledRows}
 use Rattle.voice.specs.Lists.{every}
@@ -32,7 +32,7 @@ pub record PitchAt (pitches stretches mainlobes : List Float) (count : ℕ) (f0 
 
 -- a single voice has one row of coefficients, a blend one for each of its channels
 abbrev pub rowsIn : Constants → ℕ
-rowsIn x = pick (eqb (x .blend) 0) 1 (x .k)
+rowsIn x = cond (eqb (x .blend) 0) 1 (x .k)
 
 -- the columns of the partials are those of the frequency f0
 module _ (x : Constants) (count : ℕ) (pitches stretches mainlobes partials : List Float) where

@@ -1,10 +1,10 @@
 // The noise of a sample: the number that every live band hears, and what a band adds.
+ghost use mathlib.Core.Bool.{cond};
 ghost use mathlib.Core.Path.{_≡_};
 ghost use Prim.Native.Nat.{_≤_, _<_, _+_, _*_};
 ghost use lib.ListN.{length, getD};
 ghost use lib.Dec.{eqb};
 ghost use lib.Ieee.{nan};
-ghost use Rattle.wire.specs.Parse.{pick};
 ghost use Rattle.float.specs.Sqrt.{sqrt};
 ghost use Rattle.float.specs.F32.{_⊕_, _⊗_};
 ghost use Rattle.voice.specs.Lists.{steps};
@@ -27,7 +27,7 @@ const UNIT_VARIANCE: f32 = 1.7320508;
 
 // The generator steps only where a band is live.
 pub fn noise_step(live_count: usize, rng: Rng) -> Bipolar
-    ensures { λ r. ⌜ (r .value ≡ noiseIn rng) × (r .rng ≡ pick (eqb «live_count» 0) rng (nextBipolar rng .rng)) ⌝ }
+    ensures { λ r. ⌜ (r .value ≡ noiseIn rng) × (r .rng ≡ cond (eqb «live_count» 0) rng (nextBipolar rng .rng)) ⌝ }
 {
     let next = rng.next_bipolar();
     let value = next.value * UNIT_VARIANCE;

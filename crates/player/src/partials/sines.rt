@@ -8,7 +8,7 @@ ghost use Rattle.player.specs.Phase.{AllPhases};
 ghost use Rattle.player.specs.inner.Columns.{Filled};
 ghost use Rattle.wave_table.specs.Wave.{Waves};
 ghost use Rattle.filters.specs.Wave.{restOf, sineOf};
-ghost use Rattle.player.specs.inner.Sines.{cellFloat, indexOf, startOf, riseOf, lineAt, AllCells};
+ghost use Rattle.player.specs.inner.Sines.{cellFloat, indexOf, cellStart, cellRise, lineAt, AllCells};
 ghost use Rattle.voice.specs.Limits.{maxPartials};
 use crate::partials::floor::floor;
 
@@ -38,8 +38,8 @@ fn lines<'a>(
 )
     requires { ⌜ Waves (now wave) × (m ≤ length (now starts)) × (m ≤ length (now rises)) × (m ≤ length (now cells)) × AllCells (now cells)
         m ⌝ }
-    ensures { λ r. ⌜ Filled (now (starts .exit)) (λ i. startOf (indexOf (getD (now (cells .entry)) i nan))) m × Filled (now (rises .exit))
-        (λ i. riseOf (indexOf (getD (now (cells .entry)) i nan))) m ⌝ }
+    ensures { λ r. ⌜ Filled (now (starts .exit)) (λ i. cellStart (indexOf (getD (now (cells .entry)) i nan))) m × Filled (now (rises .exit))
+        (λ i. cellRise (indexOf (getD (now (cells .entry)) i nan))) m ⌝ }
 {
     let mut i = 0;
     while i < m {

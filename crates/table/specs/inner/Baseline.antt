@@ -1,9 +1,9 @@
 -- Question 7 in one pass over the entries: what the pass holds after each. Cited by private functions only.
 use Prim.Native.Nat.{ℕ, _+_}
 use mathlib.Core.List.{List}
-use mathlib.Core.Bool.{_&&_}
+use mathlib.Core.Bool.{_&&_, cond}
 use lib.ListN.{length}
-use Rattle.wire.specs.Parse.{Parsed, ok, refused, pick}
+use Rattle.wire.specs.Parse.{Parsed, ok, refused}
 use Rattle.table.specs.declared.span.Span.{Span}
 use Rattle.table.specs.declared.span.Baseline.{Baseline}
 use Rattle.table.specs.Table.{PitchEntry}
@@ -19,7 +19,7 @@ judged Baseline.Neither i Span.Neither = Baseline.Neither
 judged Baseline.Neither i (Span.Both a b) = Baseline.Broken 0 i
 judged (Baseline.Both x y) i Span.Lone = Baseline.Broken i i
 judged (Baseline.Both x y) i Span.Neither = Baseline.Broken 0 i
-judged (Baseline.Both x y) i (Span.Both a b) = pick (floatEq x a && floatEq y b) (Baseline.Both x y) (Baseline.Broken 0 i)
+judged (Baseline.Both x y) i (Span.Both a b) = cond (floatEq x a && floatEq y b) (Baseline.Both x y) (Baseline.Broken 0 i)
 
 -- the verdict on the whole table, from the pass's state before the entry with index i and the entries from there on
 unfoldable pub verdictFrom : Baseline → ℕ → List PitchEntry → Verdict

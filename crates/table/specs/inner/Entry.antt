@@ -5,7 +5,7 @@ use mathlib.Core.Path.{_≡_}
 use mathlib.Core.List.{List}
 use lib.ListN.{length}
 use lib.Dec.{eqb}
-use Rattle.wire.specs.Parse.{refusal, Parsed, ok, refused, Parser, pure, _>>=_, _>>_, ask}
+use Rattle.wire.specs.Parse.{refusal, Parsed, ok, refused, Parser, pure, _>>=_, _>>_, require}
 use Rattle.wire.specs.Cursor.{u32}
 use Rattle.table.specs.declared.entry.NumbersRead.{NumbersRead}
 use Rattle.table.specs.declared.entry.PairsRead.{PairsRead}
@@ -39,7 +39,7 @@ entryBy i = do
   x ← numbers
   y ← numbers
   ms ← metadata
-  ask (eqb (y .first * (length (x .words) + y .second)) (length (y .words))) (refusal 6 i 0)
+  require (eqb (y .first * (length (x .words) + y .second)) (length (y .words))) (refusal 6 i 0)
   pure (record {
     f0Hz = x .first;
     stretch = x .second;

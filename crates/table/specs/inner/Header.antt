@@ -1,10 +1,11 @@
 -- A header in the parts that the code reads by themselves: mark and version, then name and entry count. Where a part starts.
 -- Cited by private functions only.
+use mathlib.Core.Bool.{cond}
 use Prim.Native.Nat.{ℕ}
 use mathlib.Core.Path.{_≡_}
 use mathlib.Core.List.{List}
 use lib.Dec.{leb}
-use Rattle.wire.specs.Parse.{refusal, Parsed, ok, refused, Parser, pure, _>>=_, _>>_, ask, pick}
+use Rattle.wire.specs.Parse.{refusal, Parsed, ok, refused, Parser, pure, _>>=_, _>>_, require}
 use Rattle.wire.specs.Cursor.{takeAt, u16, u32}
 use Rattle.table.specs.declared.header.VersionRead.{VersionRead}
 use Rattle.table.specs.declared.header.HeaderRead.{HeaderRead}
@@ -16,9 +17,9 @@ unfoldable pub version : Parser ℕ
 version = do
   p ← takeAt 4
   m ← bytesAt p 4
-  ask (same m magic) (refusal 3 0 0)
+  require (same m magic) (refusal 3 0 0)
   v ← u16
-  ask (leb v 1) (refusal 4 v 0)
+  require (leb v 1) (refusal 4 v 0)
   pure v
 
 unfoldable pub headerBy : Parser Header
@@ -44,4 +45,4 @@ headerIn (refused r) s = refused r
 
 -- where a part of a slice of n bytes starts that is asked for at a position: at its start where that is past its end
 abbrev pub partStart : ℕ → ℕ → ℕ
-partStart n at = pick (leb at n) at 0
+partStart n at = cond (leb at n) at 0

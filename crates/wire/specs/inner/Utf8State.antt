@@ -7,17 +7,17 @@ use Rattle.wire.specs.declared.utf8.Rest.{Rest}
 use Rattle.wire.specs.Utf8.{Octets, range, Next, follow, bad}
 
 -- n octets: the first from `low` to `high`, the others UTF8-tail
-unfoldable pub restOf : ℕ → ℕ → ℕ → List Octets
-restOf zero lo hi = []
-restOf (suc n) lo hi = range lo hi ∷ restOf n 0x80 0xBF
+unfoldable pub octetsLeft : ℕ → ℕ → ℕ → List Octets
+octetsLeft zero lo hi = []
+octetsLeft (suc n) lo hi = range lo hi ∷ octetsLeft n 0x80 0xBF
 
 abbrev pub ranges : Rest → List Octets
-ranges t = restOf (t .left) (t .low) (t .high)
+ranges t = octetsLeft (t .left) (t .low) (t .high)
 
 abbrev pub followNext : Follow → Next
 followNext (Follow.Rest t) = follow (ranges t)
 followNext Follow.Bad = bad
 
 -- of the n bytes from `at` on, none is above b
-abbrev pub Upto : List ℕ → ℕ → ℕ → ℕ → Type 0
-Upto s at n b = (k : ℕ) → k < n → getD s (at + k) 0 ≤ b
+abbrev pub ValidUpTo : List ℕ → ℕ → ℕ → ℕ → Type 0
+ValidUpTo s at n b = (k : ℕ) → k < n → getD s (at + k) 0 ≤ b

@@ -3,14 +3,14 @@ use mathlib.Core.Path.{_≡_, subst}
 use Prim.Native.Nat.{ℕ, _-_, _≤_}
 use native.Mathlib.Omega.{arith}
 use lib.ListN.{length}
-use Rattle.float.specs.Roots.{IsRoot, Upto}
+use Rattle.float.specs.Roots.{IsRoot, DoneUpTo}
 use Rattle.float.proofs.Column.{upto-none, upto-more}
 use borrow.Author.Needs.{needs}
 use Rattle.float.proofs.roots.each.Statement.{statement}
 use Rattle.float.proofs.roots.each.Tie as tie
 
 abbrev Inv-loop : tie.InvT-loop
-Inv-loop roots₀ xs n i₀ roots i = (i ≤ n) × (n ≤ length roots₀) × (n ≤ length xs) × Upto IsRoot i xs roots₀ roots
+Inv-loop roots₀ xs n i₀ roots i = (i ≤ n) × (n ≤ length roots₀) × (n ≤ length xs) × DoneUpTo IsRoot i xs roots₀ roots
 
 abbrev μ-loop : tie.MeasureT-loop
 μ-loop roots₀ xs n i₀ roots i = n - i
@@ -53,7 +53,7 @@ returns c =
     let l = c .before in
     let s = l .before .before .before in
     let e : l .loop .i ≡ s .args .n = omega arith in
-    subst (λ (i : ℕ). Upto IsRoot i (s .args .xs .now) (s .args .roots .now) (l .loop .roots)) e (l .loop .inv .3)
+    subst (λ (i : ℕ). DoneUpTo IsRoot i (s .args .xs .now) (s .args .roots .now) (l .loop .roots)) e (l .loop .inv .3)
 
 pub each-spec : {M : Type 1} → statement M
 each-spec =

@@ -3,14 +3,14 @@ use mathlib.Core.Path.{_≡_, subst}
 use Prim.Native.Nat.{ℕ, _-_, _≤_}
 use native.Mathlib.Omega.{arith}
 use lib.ListN.{length}
-use Rattle.float.specs.Roots.{Kept, Upto}
+use Rattle.float.specs.Roots.{Kept, DoneUpTo}
 use Rattle.float.proofs.Column.{upto-none, upto-more}
 use borrow.Author.Needs.{needs}
 use Rattle.float.proofs.roots.guess_each.Statement.{statement}
 use Rattle.float.proofs.roots.guess_each.Tie as tie
 
 abbrev Inv-loop : tie.InvT-loop
-Inv-loop roots₀ xs n i₀ roots i = (i ≤ n) × (n ≤ length roots₀) × (n ≤ length xs) × Upto Kept i xs roots₀ roots
+Inv-loop roots₀ xs n i₀ roots i = (i ≤ n) × (n ≤ length roots₀) × (n ≤ length xs) × DoneUpTo Kept i xs roots₀ roots
 
 abbrev μ-loop : tie.MeasureT-loop
 μ-loop roots₀ xs n i₀ roots i = n - i
@@ -53,7 +53,7 @@ returns c =
     let l = c .before in
     let s = l .before .before .before in
     let e : l .loop .i ≡ s .args .n = omega arith in
-    subst (λ (i : ℕ). Upto Kept i (s .args .xs .now) (s .args .roots .now) (l .loop .roots)) e (l .loop .inv .3)
+    subst (λ (i : ℕ). DoneUpTo Kept i (s .args .xs .now) (s .args .roots .now) (l .loop .roots)) e (l .loop .inv .3)
 
 pub guess-each-spec : {M : Type 1} → statement M
 guess-each-spec =

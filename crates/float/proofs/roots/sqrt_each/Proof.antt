@@ -3,7 +3,7 @@ use mathlib.Core.Path.{_≡_, _∙_}
 use mathlib.Core.List.{List}
 use native.Mathlib.Nat.{le-trans}
 use lib.Ieee.{Float}
-use Rattle.float.specs.Roots.{rooted, IsRoot, Upto}
+use Rattle.float.specs.Roots.{rooted, IsRoot, DoneUpTo}
 use Rattle.float.proofs.Column.{rooted-least, upto-rooted}
 use borrow.Author.Needs.{needs}
 use Rattle.float.proofs.roots.sqrt_each.Statement.{statement}
@@ -13,7 +13,7 @@ abbrev start : tie.After-least2 → tie.Start
 start c = c .before .before .before .before
 
 -- the first k are all that the lists have of the first n
-all : (c : tie.After-least2) (after : List Float) → Upto IsRoot (c .least2 .result) (start c .args .xs .now) (start c .args .roots .now) after → after ≡ rooted (start c .args .n) (start c .args .xs .now) (start c .args .roots .now)
+all : (c : tie.After-least2) (after : List Float) → DoneUpTo IsRoot (c .least2 .result) (start c .args .xs .now) (start c .args .roots .now) after → after ≡ rooted (start c .args .n) (start c .args .xs .now) (start c .args .roots .now)
 all c after u =
     let a = start c .args in
     let k = c .least2 .ensures in

@@ -8,7 +8,7 @@ use borrow.Author.Needs.{needs}
 use native.Mathlib.Omega.{arith}
 use Rattle.wire.specs.declared.utf8.Follow.{Follow}
 use Rattle.wire.specs.Utf8.{octets, utf8, onto}
-use Rattle.wire.specs.inner.Utf8State.{ranges, restOf, followNext}
+use Rattle.wire.specs.inner.Utf8State.{ranges, octetsLeft, followNext}
 use Rattle.wire.proofs.Laws.{octets-end}
 use Rattle.wire.proofs.utf8.from_utf8.Statement.{statement}
 use Rattle.wire.proofs.utf8.from_utf8.Tie as tie
@@ -29,7 +29,7 @@ less l i from to h f g u = ⊎-elim (λ e. ends l i to h (le-trans (le-of-eq (sy
     goes l i from to f k u = omega arith
 
 loop-holds : tie.Need-loop-holds Inv-loop μ-loop
-unfolding restOf
+unfolding octetsLeft
 loop-holds c = (search needs, refl)
 
 start-requires : tie.Need-start-requires Inv-loop μ-loop

@@ -1,7 +1,7 @@
 use native.Mathlib.Omega.{arith}
 use borrow.Author.Tests.{le-leb, lt-leb}
 use Rattle.wire.specs.Utf8.{lead}
-use Rattle.wire.specs.inner.Utf8State.{restOf}
+use Rattle.wire.specs.inner.Utf8State.{octetsLeft}
 use borrow.Author.Needs.{needs}
 use Rattle.wire.proofs.utf8.lead_byte.Statement.{statement}
 use Rattle.wire.proofs.utf8.lead_byte.Tie as tie
@@ -12,7 +12,7 @@ then-rest-requires c κs = search needs
 
 -- src/utf8.rt:31:9
 returns : tie.Need-returns
-unfolding lead restOf
+unfolding lead octetsLeft
 returns c =
     let b2 = c .before .before in
     let b = b2 .args .b in
@@ -20,7 +20,7 @@ returns c =
 
 -- src/utf8.rt:34:9
 returns-2 : tie.Need-returns-2
-unfolding lead restOf
+unfolding lead octetsLeft
 returns-2 c =
     let b2 = c .before .before in
     let b = b2 .args .b in
@@ -32,7 +32,7 @@ then-rest-requires-2 c κs = search needs
 
 -- src/utf8.rt:37:9
 returns-3 : tie.Need-returns-3
-unfolding lead restOf
+unfolding lead octetsLeft
 returns-3 c =
     let b4 = c .before .before .before .before in
     let b = b4 .args .b in
@@ -44,7 +44,7 @@ then-rest-requires-3 c κs = search needs
 
 -- src/utf8.rt:40:9
 returns-4 : tie.Need-returns-4
-unfolding lead restOf
+unfolding lead octetsLeft
 returns-4 c =
     let b5 = c .before .before .before .before .before in
     let b = b5 .args .b in
@@ -56,7 +56,7 @@ then-rest-requires-4 c κs = search needs
 
 -- src/utf8.rt:43:9
 returns-5 : tie.Need-returns-5
-unfolding lead restOf
+unfolding lead octetsLeft
 returns-5 c =
     let b6 = c .before .before .before .before .before .before in
     let b = b6 .args .b in
@@ -68,7 +68,7 @@ then-rest-requires-5 c κs = search needs
 
 -- src/utf8.rt:46:9
 returns-6 : tie.Need-returns-6
-unfolding lead restOf
+unfolding lead octetsLeft
 returns-6 c =
     let b7 = c .before .before .before .before .before .before .before in
     let b = b7 .args .b in
@@ -80,7 +80,7 @@ then-rest-requires-6 c κs = search needs
 
 -- src/utf8.rt:49:9
 returns-7 : tie.Need-returns-7
-unfolding lead restOf
+unfolding lead octetsLeft
 returns-7 c =
     let b8 = c .before .before .before .before .before .before .before .before in
     let b = b8 .args .b in
@@ -92,7 +92,7 @@ then-rest-requires-7 c κs = search needs
 
 -- src/utf8.rt:52:9
 returns-8 : tie.Need-returns-8
-unfolding lead restOf
+unfolding lead octetsLeft
 returns-8 c =
     let b9 = c .before .before .before .before .before .before .before .before .before in
     let b = b9 .args .b in
@@ -104,7 +104,7 @@ then-rest-requires-8 c κs = search needs
 
 -- src/utf8.rt:55:9
 returns-9 : tie.Need-returns-9
-unfolding lead restOf
+unfolding lead octetsLeft
 returns-9 c =
     let b10 = c .before .before .before .before .before .before .before .before .before .before in
     let b = b10 .args .b in
@@ -116,7 +116,7 @@ then-rest-requires-9 c κs = search needs
 
 -- src/utf8.rt:58:9
 returns-10 : tie.Need-returns-10
-unfolding lead restOf
+unfolding lead octetsLeft
 returns-10 c =
     let b11 = c .before .before .before .before .before .before .before .before .before .before .before in
     let b = b11 .args .b in
@@ -124,7 +124,7 @@ returns-10 c =
 
 -- src/utf8.rt:27:1
 returns-11 : tie.Need-returns-11
-unfolding lead restOf
+unfolding lead octetsLeft
 returns-11 c =
     let b10 = c .before .before .before .before .before .before .before .before .before .before in
     let b = b10 .args .b in

@@ -4,7 +4,7 @@ use mathlib.Core.Path.{_≡_, sym, ap, _∙_}
 use mathlib.Core.List.{List, []}
 use lib.ListN.{drop}
 use Rattle.wire.specs.Utf8.{octets}
-use Rattle.wire.specs.inner.Utf8State.{restOf, ranges}
+use Rattle.wire.specs.inner.Utf8State.{octetsLeft, ranges}
 use Rattle.wire.specs.declared.utf8.Rest.{Rest}
 use borrow.Author.Needs.{needs}
 use Rattle.wire.proofs.utf8.start.Statement.{statement}
@@ -14,8 +14,8 @@ skip-requires : tie.Need-skip-requires
 skip-requires c κs = search needs
 
 none : (t : Rest) (s : List ℕ) (k : ℕ) → t .left ≡ 0 → octets (drop k s) (ranges t) ≡ octets (drop k s) []
-unfolding restOf
-none t s k e = ap (λ (n : ℕ). octets (drop k s) (restOf n (t .low) (t .high))) e
+unfolding octetsLeft
+none t s k e = ap (λ (n : ℕ). octets (drop k s) (octetsLeft n (t .low) (t .high))) e
 
 returns : tie.Need-returns
 returns c =

@@ -6,7 +6,7 @@ use mathlib.Core.Path.{_≡_, refl}
 use lib.ListN.{length, getD, length-set}
 use lib.Ieee.{nan}
 use Rattle.player.specs.inner.Columns.{Filled}
-use Rattle.player.specs.inner.Sines.{indexOf, startOf, riseOf, Cell}
+use Rattle.player.specs.inner.Sines.{indexOf, cellStart, cellRise, Cell}
 use Rattle.player.proofs.Waves.{start-is, rise-is}
 use Rattle.player.proofs.ColumnLaws.{filled-none, filled-again, filled-full}
 use Rattle.player.proofs.partials.sines.lines.Statement.{statement}
@@ -14,7 +14,7 @@ use Rattle.player.proofs.partials.sines.lines.Tie as tie
 
 -- the places before i are done
 abbrev Inv-loop : tie.InvT-loop
-Inv-loop starts₀ rises₀ cells wave m i₀ starts rises i = (i ≤ m) × (length starts ≡ length starts₀) × (length rises ≡ length rises₀) × Filled starts (λ j. startOf (indexOf (getD cells j nan))) i × Filled rises (λ j. riseOf (indexOf (getD cells j nan))) i
+Inv-loop starts₀ rises₀ cells wave m i₀ starts rises i = (i ≤ m) × (length starts ≡ length starts₀) × (length rises ≡ length rises₀) × Filled starts (λ j. cellStart (indexOf (getD cells j nan))) i × Filled rises (λ j. cellRise (indexOf (getD cells j nan))) i
 
 abbrev μ-loop : tie.MeasureT-loop
 μ-loop starts₀ rises₀ cells wave m i₀ starts rises i = m - i
@@ -82,8 +82,8 @@ loop-again c =
       omega arith,
       simp length-set (l .inv .1),
       simp length-set (l .inv .2),
-      filled-again (λ j. startOf (indexOf (getD (s .args .cells .now) j nan))) (l .starts) (l .i) _ room (start-is (s .args .wave .now) (s .pre .0) _ h) (l .inv .3),
-      filled-again (λ j. riseOf (indexOf (getD (s .args .cells .now) j nan))) (l .rises) (l .i) _ room2 (rise-is (s .args .wave .now) (s .pre .0) _ h) (l .inv .4),
+      filled-again (λ j. cellStart (indexOf (getD (s .args .cells .now) j nan))) (l .starts) (l .i) _ room (start-is (s .args .wave .now) (s .pre .0) _ h) (l .inv .3),
+      filled-again (λ j. cellRise (indexOf (getD (s .args .cells .now) j nan))) (l .rises) (l .i) _ room2 (rise-is (s .args .wave .now) (s .pre .0) _ h) (l .inv .4),
     )
 
 same-length : tie.Need-same-length Inv-loop μ-loop
