@@ -18,7 +18,7 @@ use Rattle.filters.specs.Wave.{sineOf}
 use Rattle.player.specs.Bracket.{between}
 use Rattle.player.specs.Sound.{sidesAt, fadeAt, partialRow, noiseRow, addSingle, addBlend, blendCoeff, partialTerm, addNoiseSingle, addNoiseBlend, blendPower, noiseTerm}
 use Rattle.player.specs.inner.Columns.{added, audible, bandTerm}
-use Rattle.player.specs.inner.Terms.{termGain, partialCoeff, bandCoeff}
+use Rattle.player.specs.inner.Terms.{termGain, sampleCoeff, bandCoeff}
 use Rattle.voice.specs.declared.voice.Voice.{Voice}
 use Rattle.player.proofs.ColumnLaws.{steps-as, add-heard}
 
@@ -46,7 +46,7 @@ noise-blend-is-single y power noiseGain makeup filtered F =
 
 -- ---- LAW: a term of either kind, by one formula
 pub partial-by-one : (v : Voice) (f0 : Float) (g : List Float) (i : ℕ) (y p : Float)
-    → addSingle y (partialCoeff (v .set .blend) (v .set .k) (λ q. partialRow (v .partials) (sidesAt v f0) q i) g) (between (mainlobes v) (sidesAt v f0)) (fadeAt v f0 i) (termGain (v .set .blend) g) p ≡ partialTerm v f0 g i y p
+    → addSingle y (sampleCoeff (v .set .blend) (v .set .k) (λ q. partialRow (v .partials) (sidesAt v f0) q i) g) (between (mainlobes v) (sidesAt v f0)) (fadeAt v f0 i) (termGain (v .set .blend) g) p ≡ partialTerm v f0 g i y p
 unfolding partialTerm
 partial-by-one v f0 g i y p = go (eqb (v .set .blend) 0)
   where
@@ -80,7 +80,7 @@ module _ (blend k : ℕ) (r s : ℕ → Float) (g : List Float) (e : (q : ℕ) �
       go true h = h 0 (omega arith)
       go false h = f h
 
-  pub partial-coeff-as : partialCoeff blend k r g ≡ partialCoeff blend k s g
+  pub partial-coeff-as : sampleCoeff blend k r g ≡ sampleCoeff blend k s g
   unfolding blendCoeff
   partial-coeff-as = alike (λ row. blendCoeff row g k) (λ h. steps-as _ _ (nearest 0 1) k (λ q a y. ap (λ (z : Float). y ⊕ getD g q nan ⊗ z) (h q a)))
 

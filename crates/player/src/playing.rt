@@ -18,7 +18,8 @@ pub struct Moved {
     pub rng: Rng,
 }
 
-// Plays a voice whose lists and running state are lent where they lie. A refusal leaves them as they are.
+// Plays a voice whose lists, phases and memories are lent where they lie; the noise number is handed in, and answered. A refusal leaves
+// all of it as it is.
 pub fn play_parts<'a>(
     set: Setting,
     lists: &'a [f32; 160],

@@ -1,5 +1,5 @@
-// Playing a voice where it lies: its lists and its running state are lent, and nothing of it is copied but its numbers,
-// which tells in short blocks.
+// Playing a voice where it lies: its lists, phases and memories are lent, and nothing of it is copied but its numbers and the noise
+// number, which tells in short blocks.
 ghost use Rattle.voice.specs.Input.{call};
 ghost use Rattle.player.specs.Play.{PlaysIn};
 use player::play_parts;

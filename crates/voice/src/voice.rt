@@ -18,7 +18,7 @@ pub struct Setting {
     pub k: usize, // channels that are blended; 1 of a single voice
     pub m: usize, // phases
     pub j: usize, // bands
-    pub live_count: usize, // live bands: the first places of `live`
+    pub live_count: usize, // live bands: the first places of `live`; a single voice plays all j, whatever they say
     pub sample_rate: f32,
     pub live: [u8; 16],
 }

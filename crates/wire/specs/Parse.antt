@@ -2,7 +2,7 @@
 -- past it, or a refusal. The definitions of the wire and of the table are written with it, each question where it is asked.
 use Prim.Native.Nat.{ℕ, zero, suc, _+_}
 use mathlib.Core.List.{List, [], _∷_}
-use mathlib.Core.Bool.{Bool, true, false, cond}
+use mathlib.Core.Bool.{Bool, true, false}
 
 -- a refusal: the number of the question that was answered no, and the values that it names (0 where it names none)
 pub record Refusal : Type 0 where

@@ -68,6 +68,7 @@ fn string_at(buf: &[u8], pos: usize) -> StringRead
     Cursor { at: pos }.string(buf)
 }
 
+// The position before is handed in as to the three above, so that the proofs of the four methods go alike; the cursor says it all.
 fn past_string(r: StringRead, _pos: usize) -> usize
     ensures { λ n. ⌜ n ≡ reached r ⌝ }
 {

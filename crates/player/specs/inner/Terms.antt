@@ -20,8 +20,8 @@ abbrev pub termGain : ℕ → List Float → Float
 termGain blend gains = cond (eqb blend 0) (getD gains 0 nan) (nearest 1 1)
 
 -- the coefficient of a partial, and of a band, of which channel q's is `row q`
-abbrev pub partialCoeff : ℕ → ℕ → (ℕ → Float) → List Float → Float
-partialCoeff blend k row gains = cond (eqb blend 0) (row 0) (blendCoeff row gains k)
+abbrev pub sampleCoeff : ℕ → ℕ → (ℕ → Float) → List Float → Float
+sampleCoeff blend k row gains = cond (eqb blend 0) (row 0) (blendCoeff row gains k)
 
 abbrev pub bandCoeff : ℕ → ℕ → (ℕ → Float) → List Float → Float
 bandCoeff blend k row gains = cond (eqb blend 0) (row 0) (sqrt (blendPower row gains k))
@@ -29,7 +29,7 @@ bandCoeff blend k row gains = cond (eqb blend 0) (row 0) (sqrt (blendPower row g
 -- partial i, where row q of the rows holds channel q's coefficients between the two sides
 abbrev pub partialAdded : ℕ → ℕ → List Float → Float → List Float → List Float → List Float → ℕ → Float → Float
 partialAdded blend k rows mainlobe fades gains sines i y =
-    let coeff = partialCoeff blend k (λ q. getD rows (q * 32 + i) nan) gains in
+    let coeff = sampleCoeff blend k (λ q. getD rows (q * 32 + i) nan) gains in
     added y coeff (coeff ⊗ mainlobe ⊗ getD fades i nan ⊗ termGain blend gains ⊗ getD sines i nan)
 
 -- live band l, in the same way
@@ -41,6 +41,6 @@ noiseAdded blend k rows gains noiseGain makeup filtered l y =
 -- partial i by itself, where p is what the frequency decides and phases are those before the sample
 abbrev pub sampleAdded : Constants → Pitch → List Float → List Float → List Float → ℕ → Float → Float
 sampleAdded x p partials gains phases i y =
-    addSingle y (partialCoeff (x .blend) (x .k) (λ q. partialRow partials (p .s) q i) gains) (p .mainlobe)
+    addSingle y (sampleCoeff (x .blend) (x .k) (λ q. partialRow partials (p .s) q i) gains) (p .mainlobe)
     (nyquistFade (partialFreq (i + 1) (p .f0) (p .stretch)) (x .nyquist)) (termGain (x .blend) gains)
     (advanceOf (getD phases i nan) (stepOf (i + 1) (p .f0) (p .stretch) (x .inv)))

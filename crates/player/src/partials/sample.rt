@@ -11,7 +11,7 @@ ghost use Rattle.player.specs.Phase.{Phase, advanceOf, stepOf};
 ghost use Rattle.voice.specs.Voice.{phasesOk};
 ghost use Rattle.player.specs.Bracket.{SidesIn};
 ghost use Rattle.player.specs.Sound.{addSingle, blendCoeff, partialRow};
-ghost use Rattle.player.specs.inner.Terms.{partialCoeff, sampleAdded};
+ghost use Rattle.player.specs.inner.Terms.{sampleCoeff, sampleAdded};
 ghost use Rattle.voice.specs.Limits.{maxEntries, maxPartials, maxBlended, maxHz};
 use crate::constants::Constants;
 use crate::input::term_gain;
@@ -55,7 +55,7 @@ fn partial_coeff<'a>(
     i: usize,
 ) -> f32
     requires { ⌜ SidesIn maxEntries s ⌝ ∗ ⌜ (k ≤ maxBlended) × (i < maxPartials) ⌝ }
-    ensures { λ r. ⌜ r ≡ partialCoeff blend k (λ q. partialRow (now (partials .entry)) s q i) (now (gains .entry)) ⌝ }
+    ensures { λ r. ⌜ r ≡ sampleCoeff blend k (λ q. partialRow (now (partials .entry)) s q i) (now (gains .entry)) ⌝ }
 {
     if blend == 0 {
         let all = &partials[..];
