@@ -148,24 +148,24 @@ ticked-full ys w1 w2 z1 z2 cs x l n e K = rw e at K
 
 -- ---- a term is stored, and -0 over it where the coefficient is 0
 -- LAW: adding what is audible, or -0 where nothing is, is adding where something is audible
-pub add-heard : (y c x : Float) → T (fits binary32 y) → y ⊕ audible c x ≡ added y c x
-add-heard y c x F = go (ne c (nearest 0 1))
+pub add-audible : (y c x : Float) → T (fits binary32 y) → y ⊕ audible c x ≡ added y c x
+add-audible y c x F = go (ne c (nearest 0 1))
   where
     go : (b : Bool) → y ⊕ cond b x minusZero ≡ cond b (y ⊕ x) y
     go true = refl
     go false = add-minus-zero y F
 
-pub heard-is : (c x : Float) → eq c (nearest 0 1) ≡ false → x ≡ audible c x
+pub audible-is : (c x : Float) → eq c (nearest 0 1) ≡ false → x ≡ audible c x
 unfolding ne
-heard-is c x h = rw h
+audible-is c x h = rw h
 
 pub silent-is : (c x : Float) → eq c (nearest 0 1) ≡ true → minusZero ≡ audible c x
 unfolding ne
 silent-is c x h = rw h
 
 module _ (f : ℕ → Float) (xs : List Float) (n : ℕ) (c x : Float) where
-  pub heard-again : (v : Float) → n < length xs → audible c x ≡ f n → eq c (nearest 0 1) ≡ false → v ≡ x → Filled xs f n → Filled (set xs n v) f (n + 1)
-  heard-again v h e z q F = filled-again f xs n v h (q ∙ heard-is c x z ∙ e) F
+  pub audible-again : (v : Float) → n < length xs → audible c x ≡ f n → eq c (nearest 0 1) ≡ false → v ≡ x → Filled xs f n → Filled (set xs n v) f (n + 1)
+  audible-again v h e z q F = filled-again f xs n v h (q ∙ audible-is c x z ∙ e) F
 
   pub silent-again : (v w : Float) → n < length xs → audible c x ≡ f n → eq c (nearest 0 1) ≡ true → w ≡ minusZero → Filled xs f n → Filled (set (set xs n v) n w) f (n + 1)
   silent-again v w h e z q F =

@@ -79,15 +79,15 @@ module _ (v : Voice) (K : LiveFit (v .set)) (x : Constants) (X : (x .blend ≡ v
       (f0 : Float) (ef : f0 ≡ cleaned (freq i)) (F : T (fits binary32 f0)) (W : Within 20000 1 f0) (rows : List Float) (t : NoiseTuning) (U : NoiseTunedTo v x f0 rows t)
       (next : Bipolar) (en : (next .value ≡ noiseIn rng) × (next .rng ≡ cond (eqb (v .set .«live_count») 0) rng (nextBipolar rng .rng)))
       (ys w1 w2 cs : List Float) (C : Coeffs cs (v .lists) (v .set .live) (v .set .«live_count»)) (K1 : Ticked ys w1 w2 z1 z2 cs (next .value) (v .set .«live_count»)) where
-    heard-noise : next .value ≡ noiseIn (rngAt v i)
-    heard-noise = en .0 ∙ ap (λ (z : Rng). noiseIn z) (G .rng-is)
+    noise-value : next .value ≡ noiseIn (rngAt v i)
+    noise-value = en .0 ∙ ap (λ (z : Rng). noiseIn z) (G .rng-is)
 
     -- LAW: the columns hold the memories after the sample
     pub bands-at-next : BandsAt v x (i + 1) w1 w2 (next .rng) rows t
     unfolding movedRng
     bands-at-next = record {
       rng-is = rng-again v i rng (next .rng) (G .rng-is) (en .1);
-      memories-are = subst (λ (ms : List Float). Memories w1 w2 ms (v .set .live) (v .set .«live_count»)) (memories-again v i) (memories-moved v K (rngAt v i) (memoriesAt v i) (next .value) ys w1 w2 z1 z2 cs heard-noise (G .memories-are) C K1 (G .long));
+      memories-are = subst (λ (ms : List Float). Memories w1 w2 ms (v .set .live) (v .set .«live_count»)) (memories-again v i) (memories-moved v K (rngAt v i) (memoriesAt v i) (next .value) ys w1 w2 z1 z2 cs noise-value (G .memories-are) C K1 (G .long));
       long = ap (λ (ms : List Float). length ms) (sym (memories-again v i)) ∙ length-memories v K (rngAt v i) (memoriesAt v i) ∙ G .long;
       off = subst (λ (ms : List Float). AgreeOff ms (v .state .memories) (v .set .live) (v .set .«live_count»)) (memories-again v i) (agree-moved v K (rngAt v i) (memoriesAt v i) (v .state .memories) (G .off));
       tuned = noise-stays v x rows t f0 F W U;
@@ -100,7 +100,7 @@ module _ (v : Voice) (K : LiveFit (v .set)) (x : Constants) (X : (x .blend ≡ v
     unfolding sidesAt noisy
     noisy-sounds h makeup partials y eh M ey =
         sum-is-sample v K (rngAt v i) (memoriesAt v i) f0 h (t .«noise_gain») rows makeup ys (U .noise-gain) (rw (← X .0, ← X .1) (U .rows-are)) M
-        (filtered-at v K (rngAt v i) (memoriesAt v i) (next .value) ys w1 w2 z1 z2 cs heard-noise (G .memories-are) C K1) partials y ey
+        (filtered-at v K (rngAt v i) (memoriesAt v i) (next .value) ys w1 w2 z1 z2 cs noise-value (G .memories-are) C K1) partials y ey
         ∙ rw (ef, eh)
 
 -- ---- the lists that the pass copies out of a voice's

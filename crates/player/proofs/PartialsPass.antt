@@ -130,9 +130,9 @@ module _ (v : Voice) (f0 : Float) (x : Constants) (p : Pitch) (X : ConstantsOf v
       ap (λ (z : List Float). phasesOk z (v .set .m)) (e ∙ q) ∙ phases-step (v .set .m) f0 (p .stretch) (inverseOf (v .set .«sample_rate»)) ps (F .sizes .1) W S (inverse-small (v .set) (v .lists) F) h
 
   -- a single voice sounds by gain 0 alone
-  heard-alike : (ps g h : List Float) → getD h 0 nan ≡ getD g 0 nan → (eqb (v .set .blend) 0 ≡ false → h ≡ g) → partialSum v f0 h ps ≡ partialSum v f0 g ps
+  gains-alike : (ps g h : List Float) → getD h 0 nan ≡ getD g 0 nan → (eqb (v .set .blend) 0 ≡ false → h ≡ g) → partialSum v f0 h ps ≡ partialSum v f0 g ps
   unfolding partialSum partialTerm
-  heard-alike ps g h e k = go (eqb (v .set .blend) 0) refl
+  gains-alike ps g h e k = go (eqb (v .set .blend) 0) refl
     where
       go : (b : Bool) → eqb (v .set .blend) 0 ≡ b → partialSum v f0 h ps ≡ partialSum v f0 g ps
       go true q = rw (q, e)
@@ -141,7 +141,7 @@ module _ (v : Voice) (f0 : Float) (x : Constants) (p : Pitch) (X : ConstantsOf v
   -- LAW: the sum is the definition's, where the phases were
   pub few-sounds : (freq : ℕ → Float) (g : ℕ → List Float) (i : ℕ) (h ps : List Float) (y : Float) → f0 ≡ cleaned (freq i) → (getD h 0 nan ≡ getD (g i) 0 nan) × (eqb (v .set .blend) 0 ≡ false → h ≡ g i) → ps ≡ phasesAt v freq i → y ≡ partialSum v f0 h ps
       → y ≡ partialSum v (cleaned (freq i)) (g i) (phasesAt v freq i)
-  few-sounds freq g i h ps y ef eh ep e = e ∙ heard-alike ps (g i) h (eh .0) (eh .1) ∙ rw (ef, ep)
+  few-sounds freq g i h ps y ef eh ep e = e ∙ gains-alike ps (g i) h (eh .0) (eh .1) ∙ rw (ef, ep)
 
 -- what a frequency decides serves every frequency that compares equal: it is the same
 pub pitch-stays : (v : Voice) (p : Pitch) (f0 : Float) → T (fits binary32 f0) → Within 20000 1 f0 → PitchAt (pitches v) (stretches v) (mainlobes v) (v .set .count) f0 p

@@ -20,7 +20,7 @@ use Rattle.player.specs.Sound.{sidesAt, fadeAt, partialRow, noiseRow, ad
 use Rattle.player.specs.inner.Columns.{added, audible, bandTerm}
 use Rattle.player.specs.inner.Terms.{termGain, sampleCoeff, bandCoeff}
 use Rattle.voice.specs.declared.voice.Voice.{Voice}
-use Rattle.player.proofs.ColumnLaws.{steps-as, add-heard}
+use Rattle.player.proofs.ColumnLaws.{steps-as, add-audible}
 
 -- a product times 1
 times-one : (a b : Float) → a ⊗ b ⊗ nearest 1 1 ≡ a ⊗ b
@@ -91,9 +91,9 @@ module _ (blend k : ℕ) (r s : ℕ → Float) (g : List Float) (e : (q : ℕ) �
 -- ---- LAW: what is stored as a term, added, from what the column before it holds
 pub partial-stored : (y term coeff c gain g mainlobe fade sine : Float) → T (fits binary32 y) → term ≡ audible coeff (coeff ⊗ mainlobe ⊗ fade ⊗ gain ⊗ sine) → coeff ≡ c → gain ≡ g
     → y ⊕ term ≡ added y c (c ⊗ mainlobe ⊗ fade ⊗ g ⊗ sine)
-partial-stored y term coeff c gain g mainlobe fade sine f et ec eg = rw (et, ec, eg) (add-heard y c (c ⊗ mainlobe ⊗ fade ⊗ g ⊗ sine) f)
+partial-stored y term coeff c gain g mainlobe fade sine f et ec eg = rw (et, ec, eg) (add-audible y c (c ⊗ mainlobe ⊗ fade ⊗ g ⊗ sine) f)
 
 pub band-stored : (y term coeff c gain g noiseGain makeup filtered : Float) → T (fits binary32 y) → term ≡ bandTerm coeff noiseGain gain makeup filtered → coeff ≡ c → gain ≡ g
     → y ⊕ term ≡ addNoiseSingle y c g noiseGain makeup filtered
 unfolding bandTerm addNoiseSingle
-band-stored y term coeff c gain g noiseGain makeup filtered f et ec eg = rw (et, ec, eg) (add-heard y c (c ⊗ noiseGain ⊗ g ⊗ makeup ⊗ filtered) f)
+band-stored y term coeff c gain g noiseGain makeup filtered f et ec eg = rw (et, ec, eg) (add-audible y c (c ⊗ noiseGain ⊗ g ⊗ makeup ⊗ filtered) f)

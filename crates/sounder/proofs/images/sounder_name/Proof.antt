@@ -1,5 +1,5 @@
 use Rattle.table.specs.Decode.{decode}
-use Rattle.sounder.proofs.DoorLaws.{name-held, name-placed}
+use Rattle.sounder.proofs.BoundaryLaws.{name-held, name-placed}
 use borrow.Author.Needs.{needs}
 use Rattle.sounder.proofs.images.sounder_name.Statement.{statement}
 use Rattle.sounder.proofs.images.sounder_name.Tie as tie

@@ -1,5 +1,5 @@
 use mathlib.Core.Path.{refl, sym}
-use Rattle.sounder.proofs.DoorLaws.{blend-kind}
+use Rattle.sounder.proofs.BoundaryLaws.{blend-kind}
 use Rattle.sounder.proofs.kind.kind_of.Statement.{statement}
 use Rattle.sounder.proofs.kind.kind_of.Tie as tie
 

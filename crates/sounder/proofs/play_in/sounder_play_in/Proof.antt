@@ -65,7 +65,7 @@ use Rattle.filters.proofs.rng.Rng as G
 use Rattle.filters.proofs.rng.Rng.Laws as G′
 use Rattle.player.proofs.playing.Moved as R
 use Rattle.player.proofs.playing.Moved.Laws as R′
-use Rattle.sounder.proofs.DoorLaws.{plays-in}
+use Rattle.sounder.proofs.BoundaryLaws.{plays-in}
 use Rattle.sounder.proofs.Fields.{Names, listAt, ToLists, ToPartials, ToNoise, ToPhases, ToMemories, Kept, lends, back, whole-in, whole-out}
 use Rattle.player.proofs.play_parts as parts
 use Rattle.player.proofs.play_parts.Symbol as parts-def
