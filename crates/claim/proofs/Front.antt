@@ -5,7 +5,7 @@ use Prim.Native.Nat.{ℕ, zero, suc, _-_, _≤_, _<_}
 use native.Mathlib.Omega.{arith}
 use lib.ListN.{length, List·getD-append}
 use lib.Ieee.{Float, nan}
-use Rattle.player.specs.Bracket.{notAbove, neighbours, bracketOf, sidesOf, SidesIn, between}
+use Rattle.player.specs.Bracket.{notAbove, neighbours, bracketOf, sidesOf, SidesIn, valueBetween}
 use Rattle.player.specs.declared.pitch.bracket.Sides.{Sides}
 use Rattle.player.proofs.BracketLaws.{notAbove-in}
 use Rattle.claim.proofs.Sides.{sides-in}
@@ -32,12 +32,12 @@ module _ (l r : List Float) (f0 : Float) where
         neighbours-front (notAbove l f0 n) (omega (arith, notAbove-in l f0 n)),
       )
 
-between-front : (ss q : List Float) (s : Sides) → SidesIn (length ss) s → between (ss ++ q) s ≡ between ss s
+between-front : (ss q : List Float) (s : Sides) → SidesIn (length ss) s → valueBetween (ss ++ q) s ≡ valueBetween ss s
 between-front ss q s h = rw (List·getD-append ss q nan (s .lo) (h .low), List·getD-append ss q nan (s .hi) (h .high))
 
 -- LAW: the stretch of n entries that stand at the front of longer lists
 pub stretch-front : (ps r ss q : List Float) (n : ℕ) (f0 : Float) → length ps ≡ n → length ss ≡ n → 0 < n
-    → between (ss ++ q) (sidesOf (bracketOf (ps ++ r) n f0)) ≡ between ss (sidesOf (bracketOf ps (length ps) f0))
+    → valueBetween (ss ++ q) (sidesOf (bracketOf (ps ++ r) n f0)) ≡ valueBetween ss (sidesOf (bracketOf ps (length ps) f0))
 stretch-front ps r ss q n f0 a b h =
     let e : bracketOf (ps ++ r) n f0 ≡ bracketOf ps (length ps) f0 = ap (λ k. bracketOf (ps ++ r) k f0) (sym a) ∙ bracket-front ps r f0 (rw a h) in
-    ap (λ t. between (ss ++ q) (sidesOf t)) e ∙ between-front ss q _ (rw (b, ← a) (sides-in ps f0 (length ps) (rw a h)))
+    ap (λ t. valueBetween (ss ++ q) (sidesOf t)) e ∙ between-front ss q _ (rw (b, ← a) (sides-in ps f0 (length ps) (rw a h)))

@@ -5,7 +5,7 @@ use native.Mathlib.Omega.{arith}
 use lib.ListN.{replicate, length-replicate, getD-replicate}
 use lib.Seq.{ext-getD}
 use lib.Ieee.{nan}
-use Rattle.float.specs.F32.{nearest}
+use Rattle.float.specs.F32.{quotient}
 use Rattle.filters.specs.Biquad.{cleared}
 use Rattle.voice.specs.Lists.{upTo}
 use Rattle.voice.specs.Voice.{memoryAt, noMemories}
@@ -19,4 +19,4 @@ memories-first n h =
     (λ i k. upTo-at (memoryAt noMemories) n i cleared (omega arith) ∙ first i (omega arith) ∙ sym (getD-replicate n i cleared cleared (omega arith)))
   where
     first : (i : ℕ) → i < 16 → memoryAt noMemories i ≡ cleared
-    first i l = rw (getD-replicate 32 (i * 2) (nearest 0 1) nan (omega arith), getD-replicate 32 (i * 2 + 1) (nearest 0 1) nan (omega arith))
+    first i l = rw (getD-replicate 32 (i * 2) (quotient 0 1) nan (omega arith), getD-replicate 32 (i * 2 + 1) (quotient 0 1) nan (omega arith))

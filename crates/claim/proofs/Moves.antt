@@ -12,7 +12,7 @@ use borrow.Author.Tests.{ne-eqb}
 use Rattle.table.specs.declared.desk.Kind.{Kind}
 use Rattle.table.specs.Table.{PitchEntry}
 use Rattle.table.specs.Desk.{bandCount}
-use Rattle.float.specs.F32.{_⊗_, nearest}
+use Rattle.float.specs.F32.{_⊗_, quotient}
 use Rattle.voice.specs.Lists.{mapTo, steps, upTo, padded}
 use Rattle.player.specs.Phase.{advanceOf, stepOf, inverseOf}
 use Rattle.filters.specs.Rng.{stepped, bipolarOf, nextBipolar, newRng}
@@ -211,7 +211,7 @@ module _ (k : Kind) (es : List PitchEntry) (rate : Float) (centres : List Float)
     -- the running state at first is the machine's start
     pub view-first : plainly .phases ≤ 32 → view firstState ≡ startFrom plainly
     unfolding freshVoice
-    view-first a = rw (take-replicate (nearest 0 1) (plainly .phases) 32 a, memories-first (bandCount k es) most, bands-length)
+    view-first a = rw (take-replicate (quotient 0 1) (plainly .phases) 32 a, memories-first (bandCount k es) most, bands-length)
 
     view-reseed : (s : State) (n : ℕ) → supply (reseededState s n) ≡ move plainly (view s) (seed n)
     unfolding freshVoice move

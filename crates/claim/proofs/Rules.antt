@@ -12,7 +12,7 @@ use lib.Ieee.Fits.{round-fits, cond-fits}
 use lib.Ieee.Scale.{finite}
 use borrow.Author.Tests.{eqb-false}
 use Rattle.float.specs.inner.Range.{Within}
-use Rattle.float.specs.F32.{nearest}
+use Rattle.float.specs.F32.{quotient}
 use Rattle.player.specs.Phase.{Step, advanceOf}
 use Rattle.voice.specs.Lists.{mapTo, steps}
 use Rattle.voice.specs.Input.{Call, partOf, frequencyAt, frequencyOk, cleaned}
@@ -38,7 +38,7 @@ use Rattle.claim.proofs.Sides.{between-stretch}
 -- a cleaned frequency is an f32 value
 cleaned-fits : (f : Float) → T (fits binary32 f) → T (fits binary32 (cleaned f))
 unfolding cleaned
-cleaned-fits f F = cond-fits binary32 (finite f) _ _ (cond-fits binary32 (lt (nearest 0 1) f) _ _ F (round-fits binary32 false 0 1)) (round-fits binary32 false 0 1)
+cleaned-fits f F = cond-fits binary32 (finite f) _ _ (cond-fits binary32 (lt (quotient 0 1) f) _ _ F (round-fits binary32 false 0 1)) (round-fits binary32 false 0 1)
 
 -- the pitches and stretches of a voice are f32 values
 pub record VoiceF32 (v : Voice) : Type 0 where
@@ -118,13 +118,13 @@ drop-32 zero fs h = h
 drop-32 (suc k) [] h = h
 drop-32 (suc k) (f ∷ fs) h = drop-32 k fs (λ i l. h (suc i) (omega arith))
 
-take-fits : (n : ℕ) (fs : List Float) (i : ℕ) → AllF32 fs → T (fits binary32 (getD (take n fs) i (nearest 220 1)))
+take-fits : (n : ℕ) (fs : List Float) (i : ℕ) → AllF32 fs → T (fits binary32 (getD (take n fs) i (quotient 220 1)))
 take-fits zero fs i h = round-fits binary32 false 220 1
 take-fits (suc n) [] i h = round-fits binary32 false 220 1
 take-fits (suc n) (f ∷ fs) zero h = h 0 (omega arith)
 take-fits (suc n) (f ∷ fs) (suc i) h = take-fits n fs i (λ i l. h (suc i) (omega arith))
 
-part-fits : (b : Bool) (k n : ℕ) (fs : List Float) (i : ℕ) → AllF32 fs → T (fits binary32 (getD (cond b [] (take n (drop k fs))) i (nearest 220 1)))
+part-fits : (b : Bool) (k n : ℕ) (fs : List Float) (i : ℕ) → AllF32 fs → T (fits binary32 (getD (cond b [] (take n (drop k fs))) i (quotient 220 1)))
 part-fits true k n fs i h = round-fits binary32 false 220 1
 part-fits false k n fs i h = take-fits n (drop k fs) i (drop-32 k fs h)
 
@@ -148,9 +148,9 @@ accepted-rules (suc q) v w h k = h
 
 pub first-ok : (m : ℕ) → m ≤ 32 → phasesOk (firstState .phases) m ≡ true
 unfolding phasesOk
-first-ok m h = at-every (λ i. phaseOk (getD (firstState .phases) i nan)) m (λ i l. rw (getD-replicate 32 i (nearest 0 1) nan (omega arith)) zero-ok)
+first-ok m h = at-every (λ i. phaseOk (getD (firstState .phases) i nan)) m (λ i l. rw (getD-replicate 32 i (quotient 0 1) nan (omega arith)) zero-ok)
   where
-    zero-ok : phaseOk (nearest 0 1) ≡ true
+    zero-ok : phaseOk (quotient 0 1) ≡ true
     zero-ok = unfold round le lt eq in refl
 
 -- as it is played, a voice has as many phases and entries as it has

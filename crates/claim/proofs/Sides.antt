@@ -9,11 +9,11 @@ use lib.Dec.{T, lit≤}
 use lib.Ieee.{Float, nan, binary32, round, le, fits}
 use Rattle.float.specs.inner.Range.{plain, Within}
 use Rattle.float.proofs.Finite.{shown}
-use Rattle.float.specs.F32.{nearest}
+use Rattle.float.specs.F32.{quotient}
 use Rattle.player.specs.Share.{shareOf}
 use Rattle.player.specs.declared.pitch.bracket.Bracket.the-variants.{One}
 use Rattle.voice.specs.Voice.{pitchOk, stretchOk}
-use Rattle.player.specs.Bracket.{notAbove, neighbours, bracketOf, sidesOf, SidesIn, between}
+use Rattle.player.specs.Bracket.{notAbove, neighbours, bracketOf, sidesOf, SidesIn, valueBetween}
 use Rattle.player.proofs.BracketLaws.{notAbove-in, notAbove-le, above-it}
 use Rattle.player.proofs.PhaseLaws.{share-within}
 use Rattle.player.proofs.RangeLaws.{pitch-within, not-le, stretch-ok-within}
@@ -36,7 +36,7 @@ module _ (l : List Float) (f0 : Float) where
 
   module _ (n : ℕ) (pos : 0 < n) (pitches : (i : ℕ) → i < n → pitchOk (getD l i nan) ≡ true) (pitches32 : (i : ℕ) → i < n → T (fits binary32 (getD l i nan)))
       (P : T (plain f0)) (F : T (fits binary32 f0)) where
-    zero-share : Within 1 1 (nearest 0 1)
+    zero-share : Within 1 1 (quotient 0 1)
     unfolding round
     zero-share = record { plain-is = tt; upper = lit≤ tt }
 
@@ -64,7 +64,7 @@ module _ (l : List Float) (f0 : Float) where
 
     -- LAW: the stretch is from 0 to 8
     pub between-stretch : (ss : List Float) → ((i : ℕ) → i < n → stretchOk (getD ss i nan) ≡ true) → ((i : ℕ) → i < n → T (fits binary32 (getD ss i nan)))
-        → Within 8 1 (between ss (sidesOf (bracketOf l n f0)))
+        → Within 8 1 (valueBetween ss (sidesOf (bracketOf l n f0)))
     between-stretch ss ok ok32 =
         let s = sidesOf (bracketOf l n f0) in
         let i = sides-in n pos in

@@ -12,7 +12,7 @@ use Rattle.wire.specs.Parse.{Parsed}
 use Rattle.table.specs.declared.desk.Kind.{Kind}
 use Rattle.table.specs.Table.{PitchEntry, CoeffTable}
 use Rattle.table.specs.Decode.{decode, entriesOf}
-use Rattle.float.specs.F32.{nearest}
+use Rattle.float.specs.F32.{quotient}
 use Rattle.voice.specs.Lists.{padded}
 use Rattle.voice.specs.Voice.{phaseOk, phasesOk, keepsRules, firstState}
 use Rattle.voice.specs.Question.{accepted}
@@ -36,11 +36,11 @@ map-fits pattern (e ∷ vs) zero = ofBits-fits binary32 (pattern e)
 map-fits pattern (e ∷ vs) (suc i) = map-fits pattern vs i
 
 -- and so are those of a list that holds one of each entry
-column-fits : (pattern : PitchEntry → ℕ) (vs : List PitchEntry) (l : List Float) → l ≡ padded 16 (nearest 0 1) (map (λ e. f32 (pattern e)) vs)
+column-fits : (pattern : PitchEntry → ℕ) (vs : List PitchEntry) (l : List Float) → l ≡ padded 16 (quotient 0 1) (map (λ e. f32 (pattern e)) vs)
     → (i : ℕ) → i < length vs → T (fits binary32 (getD l i nan))
 column-fits pattern vs l e i h =
     let g : PitchEntry → Float = λ e. f32 (pattern e) in
-    rw (e, getD-padded 16 (nearest 0 1) nan (map g vs) i (rw (length-map vs g) h)) (map-fits pattern vs i)
+    rw (e, getD-padded 16 (quotient 0 1) nan (map g vs) i (rw (length-map vs g) h)) (map-fits pattern vs i)
 
 fresh-32 : (k : Kind) (es : List PitchEntry) (rate : Float) (centres : List Float) → Accepted k es rate centres → VoiceF32 (freshVoice k es rate centres)
 unfolding freshVoice
@@ -56,7 +56,7 @@ pub phases-in : (v : Voice) → keepsRules v ≡ true → PhasesIn v
 unfolding phasesOk
 phases-in v h i l =
     let p = getD (v .state .phases) i nan in
-    both-true (le (nearest 0 1) p) (lt p (nearest 1 1)) (every-at (λ i. phaseOk (getD (v .state .phases) i nan)) (v .set .m) i (phases-of v h) l)
+    both-true (le (quotient 0 1) p) (lt p (quotient 1 1)) (every-at (λ i. phaseOk (getD (v .state .phases) i nan)) (v .set .m) i (phases-of v h) l)
 
 -- the three parts of the claim, of the calls' voice
 abbrev Says : Making → List VoiceCall → Voice → Type 0

@@ -11,7 +11,7 @@ use Rattle.table.specs.Decode.{decode}
 use Rattle.table.specs.Answer.{counts}
 use Rattle.table.specs.Rewrite.{rewriting, rewritten}
 use Rattle.player.specs.declared.pitch.bracket.Bracket.{Bracket}
-use Rattle.float.specs.F32.{nearest}
+use Rattle.float.specs.F32.{quotient}
 use Rattle.wave_table.specs.Wave.{quarterOf}
 use Rattle.player.specs.Phase.{advanceOf}
 use Rattle.filters.specs.Rng.{newRng, nextBipolar}
@@ -22,10 +22,10 @@ abbrev pub emptyTable : ℕ → List ℕ
 emptyTable version = 0x4D ∷ 0x53 ∷ 0x43 ∷ 0x54 ∷ version ∷ 0 ∷ 0 ∷ 0 ∷ 0 ∷ 0 ∷ 0 ∷ 0 ∷ 0 ∷ 0 ∷ []
 
 abbrev pub three : List Float
-three = nearest 100 1 ∷ nearest 200 1 ∷ nearest 400 1 ∷ []
+three = quotient 100 1 ∷ quotient 200 1 ∷ quotient 400 1 ∷ []
 
 abbrev pub four : List Float
-four = nearest 100 1 ∷ nearest 200 1 ∷ nearest 200 1 ∷ nearest 400 1 ∷ []
+four = quotient 100 1 ∷ quotient 200 1 ∷ quotient 200 1 ∷ quotient 400 1 ∷ []
 
 pub record Bench : Type 0 where
   -- accepted, 0 entries, end 14
@@ -48,11 +48,11 @@ pub record Bench : Type 0 where
   -- T at 0, 1, 64, 128, 256
   pub p7 : (quarterOf 0 ≡ 0) × (quarterOf 1 ≡ 51471) × (quarterOf 64 ≡ 3210683) × (quarterOf 128 ≡ 5934197) × (quarterOf 256 ≡ 8388608)
   -- phase 0.75 gaining 0.5 is 0.25
-  pub p8 : advanceOf (nearest 3 4) (nearest 1 2) ≡ nearest 1 4
+  pub p8 : advanceOf (quotient 3 4) (quotient 1 2) ≡ quotient 1 4
   -- seed 0 steps to 1015568748, read as 15868262 / 2^25
   pub p9 : (nextBipolar (newRng 0) .rng .state ≡ 1015568748) × HasValue (nextBipolar (newRng 0) .value) false 15868262 (2 ^ 25)
   -- pitches 100, 200, 400: 100 gives entry 0; 200 gives 1 and 2, t = 0; 300 the same pair, t = 0.5; 400 entry 2
-  pub p10 : (bracketOf three 3 (nearest 100 1) ≡ Bracket.One 0) × (bracketOf three 3 (nearest 200 1) ≡ Bracket.Between 1 2 (nearest 0 1))
-      × (bracketOf three 3 (nearest 300 1) ≡ Bracket.Between 1 2 (nearest 1 2)) × (bracketOf three 3 (nearest 400 1) ≡ Bracket.One 2)
+  pub p10 : (bracketOf three 3 (quotient 100 1) ≡ Bracket.One 0) × (bracketOf three 3 (quotient 200 1) ≡ Bracket.Between 1 2 (quotient 0 1))
+      × (bracketOf three 3 (quotient 300 1) ≡ Bracket.Between 1 2 (quotient 1 2)) × (bracketOf three 3 (quotient 400 1) ≡ Bracket.One 2)
   -- pitches 100, 200, 200, 400 at 200: entries 2 and 3
-  pub p11 : bracketOf four 4 (nearest 200 1) ≡ Bracket.Between 2 3 (nearest 0 1)
+  pub p11 : bracketOf four 4 (quotient 200 1) ≡ Bracket.Between 2 3 (quotient 0 1)

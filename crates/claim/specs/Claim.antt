@@ -6,7 +6,7 @@ use mathlib.Core.List.{List}
 use lib.ListN.{getD}
 use lib.Ieee.{nan, le, lt}
 use Rattle.voice.specs.declared.voice.Voice.{Voice}
-use Rattle.float.specs.F32.{nearest}
+use Rattle.float.specs.F32.{quotient}
 use Rattle.voice.specs.Voice.{keepsRules}
 use Rattle.making.specs.Making.{Making, makeOf}
 use Rattle.claim.specs.Machine.{machine, plainOf}
@@ -16,7 +16,7 @@ use Rattle.claim.specs.Calls.{VoiceCall, run, fed, running}
 abbrev pub PhasesIn : Voice → Type 0
 PhasesIn v =
     (i : ℕ) → i < v .set .m
-    → (le (nearest 0 1) (getD (v .state .phases) i nan) ≡ true) × (lt (getD (v .state .phases) i nan) (nearest 1 1) ≡ true)
+    → (le (quotient 0 1) (getD (v .state .phases) i nan) ≡ true) × (lt (getD (v .state .phases) i nan) (quotient 1 1) ≡ true)
 
 -- For every kind, image, rate and centres whose making is accepted, and every list of calls from the voice made, refused ones included:
 -- every phase is at least 0 and below 1, the running state is the plain machine's, fed the list's resets, seeds and joined channel 0

@@ -12,12 +12,12 @@ use Rattle.table.specs.Decode.{decode, entriesOf}
 use Rattle.table.specs.Desk.{bandCount}
 use Rattle.filters.specs.declared.biquad.BiquadCoeffs.{BiquadCoeffs}
 use Rattle.filters.specs.declared.biquad.BiquadState.{BiquadState}
-use Rattle.float.specs.F32.{_⊗_, nearest}
+use Rattle.float.specs.F32.{_⊗_, quotient}
 use Rattle.player.specs.Phase.{advanceOf, inverseOf, stepOf}
 use Rattle.filters.specs.Rng.{stepped, bipolarOf, newRng, defaultSeed}
 use Rattle.filters.specs.Biquad.{noiseBand, cleared, tickOf}
 use Rattle.voice.specs.Input.{cleaned}
-use Rattle.player.specs.Bracket.{bracketOf, sidesOf, between}
+use Rattle.player.specs.Bracket.{bracketOf, sidesOf, valueBetween}
 use Rattle.player.specs.Sound.{unitVariance}
 use Rattle.making.specs.Making.{f32, voiceEntries, channelCount, phaseCount, liveBands, Making}
 
@@ -59,7 +59,7 @@ pub data Event : Type 0 where
 -- at first: all 0, and the noise number of the default seed
 abbrev pub startFrom : Plain → Machine
 startFrom x = record {
-  phases = replicate (x .phases) (nearest 0 1);
+  phases = replicate (x .phases) (quotient 0 1);
   memories = replicate (length (x .bands)) cleared;
   noise = newRng defaultSeed .state;
 }
@@ -82,7 +82,7 @@ tick b x live (c ∷ cs) (s ∷ ss) = cond (isIn b live) (tickOf s x c .state) s
 
 -- the stretch at a frequency
 abbrev pub stretchOf : Plain → Float → Float
-stretchOf x f0 = between (x .stretches) (sidesOf (bracketOf (x .pitches) (length (x .pitches)) f0))
+stretchOf x f0 = valueBetween (x .stretches) (sidesOf (bracketOf (x .pitches) (length (x .pitches)) f0))
 
 -- with a live band the noise number steps once, and is the bands' input scaled by 1.7320508
 abbrev pub noiseNext : List ℕ → ℕ → ℕ

@@ -15,7 +15,7 @@ use Rattle.float.specs.inner.Range.{plain, Within}
 use Rattle.float.specs.Order.{minimum, maximum}
 use Rattle.float.proofs.Within.{Holds, round-within, mul-is, mul-within, div-within, add-within, le→cross}
 use Rattle.float.proofs.Fraction.{not-lt}
-use Rattle.float.specs.F32.{_⊗_, nearest}
+use Rattle.float.specs.F32.{_⊗_, quotient}
 use Rattle.filters.specs.Wave.{Phase}
 use Rattle.filters.specs.Rate.{Rate}
 use Rattle.filters.specs.Biquad.{turn, turnQuarter, centerOf}
@@ -107,16 +107,16 @@ module _ (rate : Float) (F : T (fits binary32 rate)) (R : Rate rate) where
   pos-half = mul-pos (den-pos rate) (lit< tt)
 
   -- the rate's half, and 0.9 of that
-  nyquist-within : Within (num rate) (den rate * 2) (rate ⊗ nearest 1 2)
+  nyquist-within : Within (num rate) (den rate * 2) (rate ⊗ quotient 1 2)
   unfolding round
   nyquist-within =
-      subst (λ (z : Float). Within (num rate) (den rate * 2) z) (sym (mul-is binary32 rate (nearest 1 2) (R .upper .plain-is) tt))
+      subst (λ (z : Float). Within (num rate) (den rate * 2) z) (sym (mul-is binary32 rate (quotient 1 2) (R .upper .plain-is) tt))
       (round-within binary32 (num rate * 1) (den rate * 2) (num rate) (den rate * 2) pos-half pos-half held (le-of-eq (ap (λ (z : ℕ). z * (den rate * 2)) (mul-one (num rate)))))
 
-  limit-within : Within (num rate) (den rate * 2) (rate ⊗ nearest 1 2 ⊗ nearest 9 10)
+  limit-within : Within (num rate) (den rate * 2) (rate ⊗ quotient 1 2 ⊗ quotient 9 10)
   unfolding round
   limit-within =
-      mul-within binary32 (rate ⊗ nearest 1 2) (nearest 9 10) (num rate) (den rate * 2) 1 1 (num rate) (den rate * 2) pos-half (lit< tt) pos-half held
+      mul-within binary32 (rate ⊗ quotient 1 2) (quotient 9 10) (num rate) (den rate * 2) 1 1 (num rate) (den rate * 2) pos-half (lit< tt) pos-half held
       nyquist-within (record { plain-is = tt; upper = lit≤ tt }) (le-of-eq (same (num rate) (den rate * 2)))
     where
       same : (a c : ℕ) → a * 1 * c ≡ a * (c * 1)
@@ -131,7 +131,7 @@ module _ (rate : Float) (F : T (fits binary32 rate)) (R : Rate rate) where
   -- LAW: the centre is from 0 to half the rate, whatever was asked for
   pub center-within : (raw : Float) → Within (num rate) (den rate * 2) (centerOf raw rate)
   unfolding centerOf round
-  center-within raw = high-end (num rate) (den rate * 2) raw (rate ⊗ nearest 1 2 ⊗ nearest 9 10) limit-within twenty-within
+  center-within raw = high-end (num rate) (den rate * 2) raw (rate ⊗ quotient 1 2 ⊗ quotient 9 10) limit-within twenty-within
 
   turn-within : (raw : Float) → Within 1 2 (turn (centerOf raw rate) rate)
   unfolding round
@@ -157,7 +157,7 @@ module _ (rate : Float) (F : T (fits binary32 rate)) (R : Rate rate) where
   unfolding round
   turn-quarter-phase raw =
       let x = turnQuarter (centerOf raw rate) rate in
-      let w : Within 3 4 x = add-within binary32 (turn (centerOf raw rate) rate) (nearest 1 4) 1 2 1 4 3 4 (lit< tt) (lit< tt) (lit< tt) (refl, refl) (turn-within raw) (record { plain-is = tt; upper = lit≤ tt }) (lit≤ tt) in
+      let w : Within 3 4 x = add-within binary32 (turn (centerOf raw rate) rate) (quotient 1 4) 1 2 1 4 3 4 (lit< tt) (lit< tt) (lit< tt) (refl, refl) (turn-within raw) (record { plain-is = tt; upper = lit≤ tt }) (lit≤ tt) in
       record { plain-is = w .plain-is; strict = under (num x) (den x) (den-pos x) (w .upper) }
     where
       under : (n d : ℕ) → 0 < d → n * 4 ≤ 3 * d → n * 1 < 1 * d

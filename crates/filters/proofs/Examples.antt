@@ -10,7 +10,7 @@ use lib.Ieee.{Float, nan, inf, fin, binary32, up, down, round, add, sub, mul, di
 use lib.Ieee.Fits.{down-pos}
 use lib.Ieee.Positive.{num, den}
 use borrow.Author.Tests.{ltb-false, lt-ltb, le-ltb}
-use Rattle.float.specs.F32.{_⊗_, _⊘_, nearest}
+use Rattle.float.specs.F32.{_⊗_, _⊘_, quotient}
 use Rattle.float.specs.Order.{minimum, maximum}
 use Rattle.float.specs.inner.Range.{plain}
 use Rattle.float.specs.Root.{grown, root}
@@ -25,10 +25,10 @@ use Rattle.filters.specs.Wave.{sineOf}
 
 -- ---- tau
 -- 1 × x is x
-once : (x : Float) → T (fits binary32 x) → T (plain x) → nearest 1 1 ⊗ x ≡ x
+once : (x : Float) → T (fits binary32 x) → T (plain x) → quotient 1 1 ⊗ x ≡ x
 unfolding round
 once x t p =
-    mul-is binary32 (nearest 1 1) x tt p
+    mul-is binary32 (quotient 1 1) x tt p
     ∙ ap (λ (z : ℕ). round binary32 false z (1 * den x)) (one-mul (num x))
     ∙ ap (λ (z : ℕ). round binary32 false (num x) z) (one-mul (den x))
     ∙ round-self binary32 x t p
@@ -55,23 +55,23 @@ from-twenty (fin false m e) = go (ltb (m * up e * 1) (20 * down e)) refl
     go true q = refl
     go false q = let h = ltb-false (m * up e * 1) (20 * down e) q in rw (le-ltb (m * up e * 1) (1 * down e) (omega arith))
 
-over-one : (raw rate : Float) → maximum (centerOf raw rate) (nearest 1 1) ≡ centerOf raw rate
+over-one : (raw rate : Float) → maximum (centerOf raw rate) (quotient 1 1) ≡ centerOf raw rate
 unfolding centerOf round
-over-one raw rate = from-twenty (minimum raw (rate ⊗ nearest 1 2 ⊗ nearest 9 10))
+over-one raw rate = from-twenty (minimum raw (rate ⊗ quotient 1 2 ⊗ quotient 9 10))
 
 -- LAW: at a voice's centre and rate, and its Q of 1, tau is document 01's quotient: sample rate / (f32 π × centre), at least 1
 pub tau-voice : (raw rate : Float) → T (fits binary32 rate) → Rate rate
-    → tauOf (centerOf raw rate) (nearest 1 1) rate ≡ maximum (rate ⊘ (pi ⊗ centerOf raw rate)) (nearest 1 1)
+    → tauOf (centerOf raw rate) (quotient 1 1) rate ≡ maximum (rate ⊘ (pi ⊗ centerOf raw rate)) (quotient 1 1)
 tau-voice raw rate t R =
     let c = centerOf raw rate in
-    ap (λ (z : Float). maximum (z ⊘ (pi ⊗ maximum c (nearest 1 1))) (nearest 1 1)) (once rate t (R .upper .plain-is))
-    ∙ ap (λ (z : Float). maximum (rate ⊘ (pi ⊗ z)) (nearest 1 1)) (over-one raw rate)
+    ap (λ (z : Float). maximum (z ⊘ (pi ⊗ maximum c (quotient 1 1))) (quotient 1 1)) (once rate t (R .upper .plain-is))
+    ∙ ap (λ (z : Float). maximum (rate ⊘ (pi ⊗ z)) (quotient 1 1)) (over-one raw rate)
 
 -- ---- S at a quarter, at three quarters, and at 2^-10, where it is T(1) × 2^-23
 pub record Sines : Type 0 where
-  pub at-quarter : sineOf (nearest 1 4) ≡ nearest 1 1
-  pub at-three-quarters : sineOf (nearest 3 4) ≡ neg (nearest 1 1)
-  pub at-first-cell : sineOf (nearest 1 1024) ≡ nearest 51471 8388608
+  pub at-quarter : sineOf (quotient 1 4) ≡ quotient 1 1
+  pub at-three-quarters : sineOf (quotient 3 4) ≡ neg (quotient 1 1)
+  pub at-first-cell : sineOf (quotient 1 1024) ≡ quotient 51471 8388608
 
 pub sines : Sines
 unfolding sineOf waveOf quarterOf round add sub mul neg ofInt toUnsigned
@@ -79,8 +79,8 @@ sines = record { at-quarter = refl; at-three-quarters = refl; at-first-cell = re
 
 -- ---- the power is raised to at least 10^-12: none at all, and half of 10^-12, are made up for by 10^6
 pub record Floors : Type 0 where
-  pub at-none : compensationOf (nearest 0 1) ≡ nearest 1000000 1
-  pub at-half-floor : compensationOf (nearest 1 2000000000000) ≡ nearest 1000000 1
+  pub at-none : compensationOf (quotient 0 1) ≡ quotient 1000000 1
+  pub at-half-floor : compensationOf (quotient 1 2000000000000) ≡ quotient 1000000 1
 
 -- the f32 nearest 10^-12, and its root
 abbrev least : Float
@@ -96,11 +96,11 @@ root-is = refl
 abbrev million : Float
 million = fin false 15625 (pos 6)
 
-one-is : nearest 1 1 ≡ one
+one-is : quotient 1 1 ≡ one
 unfolding round
 one-is = refl
 
-million-is : million ≡ nearest 1000000 1
+million-is : million ≡ quotient 1000000 1
 unfolding round
 million-is = refl
 
@@ -109,17 +109,17 @@ unfolding round div
 made-up = refl
 
 -- a power that the floor raises
-raised : (power : Float) → maximum power (nearest 1 1000000000000) ≡ least → compensationOf power ≡ nearest 1000000 1
+raised : (power : Float) → maximum power (quotient 1 1000000000000) ≡ least → compensationOf power ≡ quotient 1000000 1
 raised power e =
-    ap (λ (z : Float). nearest 1 1 ⊘ sqrt z) e ∙ ap (λ (z : Float). nearest 1 1 ⊘ z) root-is ∙ ap (λ (z : Float). z ⊘ its-root) one-is ∙ made-up ∙ million-is
+    ap (λ (z : Float). quotient 1 1 ⊘ sqrt z) e ∙ ap (λ (z : Float). quotient 1 1 ⊘ z) root-is ∙ ap (λ (z : Float). z ⊘ its-root) one-is ∙ made-up ∙ million-is
 
-floor-none : maximum (nearest 0 1) (nearest 1 1000000000000) ≡ least
+floor-none : maximum (quotient 0 1) (quotient 1 1000000000000) ≡ least
 unfolding round lt isNan
 floor-none = refl
 
-floor-half : maximum (nearest 1 2000000000000) (nearest 1 1000000000000) ≡ least
+floor-half : maximum (quotient 1 2000000000000) (quotient 1 1000000000000) ≡ least
 unfolding round lt isNan
 floor-half = refl
 
 pub floors : Floors
-floors = record { at-none = raised (nearest 0 1) floor-none; at-half-floor = raised (nearest 1 2000000000000) floor-half }
+floors = record { at-none = raised (quotient 0 1) floor-none; at-half-floor = raised (quotient 1 2000000000000) floor-half }

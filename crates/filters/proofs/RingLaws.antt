@@ -7,7 +7,7 @@ use native.Mathlib.Numerals.{add-one}
 use lib.Dec.{T}
 use lib.Ieee.{Float, binary32, round}
 use lib.Ieee.Fits.{and-l, and-r, mul-fits, sub-fits}
-use Rattle.float.specs.F32.{_⊕_, _⊖_, _⊗_, nearest}
+use Rattle.float.specs.F32.{_⊕_, _⊖_, _⊗_, quotient}
 use Rattle.filters.specs.Biquad.{tickOf}
 use Rattle.filters.specs.Compensation.{impulse, plusZero, quiet, rungState, rungOutput, rungPower}
 use Rattle.filters.proofs.ZeroLaws.{less-is, plus-zero-is}
@@ -23,23 +23,23 @@ pub rung-power : (c : BiquadCoeffs) (i : ℕ) (s : BiquadState) (p x : Float) (t
 unfolding rungPower
 rung-power c i s p x t e h f g = rw (g, e, f, h, add-one i)
 
-pub impulse-over : (i : ℕ) → nearest 0 1 ≡ impulse (i + 1)
+pub impulse-over : (i : ℕ) → quotient 0 1 ≡ impulse (i + 1)
 impulse-over i = rw (add-one i)
 
 -- ---- A quiet band, from its second sample on: y is output i, and z is z2 with the sign of a -0 taken off.
-quiet-zeros : (c : BiquadCoeffs) → quiet c ≡ true → (c .b0 ⊗ nearest 0 1 ≡ nearest 0 1) × (c .b1 ⊗ nearest 0 1 ≡ nearest 0 1)
+quiet-zeros : (c : BiquadCoeffs) → quiet c ≡ true → (c .b0 ⊗ quotient 0 1 ≡ quotient 0 1) × (c .b1 ⊗ quotient 0 1 ≡ quotient 0 1)
 unfolding quiet
 quiet-zeros c h =
-    let x = c .b0 ⊗ nearest 0 1 in
-    let y = c .b1 ⊗ nearest 0 1 in
+    let x = c .b0 ⊗ quotient 0 1 in
+    let y = c .b1 ⊗ quotient 0 1 in
     let t : T (plusZero x && plusZero y) = subst T (sym h) tt in
     (plus-zero-is x (mul-fits binary32 _ _) (and-l (plusZero x) (plusZero y) t), plus-zero-is y (mul-fits binary32 _ _) (and-r (plusZero x) (plusZero y) t))
 
-pub quiet-output : (c : BiquadCoeffs) (i : ℕ) (y z : Float) → quiet c ≡ true → 0 < i → y ≡ rungOutput c i → z ≡ rungState c i .z2 ⊕ nearest 0 1 → z ⊖ c .a1 ⊗ y ≡ rungOutput c (i + 1)
+pub quiet-output : (c : BiquadCoeffs) (i : ℕ) (y z : Float) → quiet c ≡ true → 0 < i → y ≡ rungOutput c i → z ≡ rungState c i .z2 ⊕ quotient 0 1 → z ⊖ c .a1 ⊗ y ≡ rungOutput c (i + 1)
 unfolding rungState tickOf round
 quiet-output c zero y z h l e f = absurd (lt-irrefl 0 l)
 quiet-output c (suc i) y z h l e f =
-    let o = nearest 0 1 in
+    let o = quotient 0 1 in
     let s = rungState c (suc i) .z2 in
     let w = c .a1 ⊗ rungOutput c (suc i) in
     let k = quiet-zeros c h in
@@ -50,7 +50,7 @@ quiet-output c (suc i) y z h l e f =
     ∙ ap (λ (x : Float). c .b0 ⊗ o ⊕ (x ⊖ w ⊕ s)) (sym (k .1))
     ∙ ap (λ (n : ℕ). rungOutput c n) (sym (add-one (suc i)))
 
-pub quiet-memory : (c : BiquadCoeffs) (i : ℕ) (y : Float) → 0 < i → y ≡ rungOutput c i → c .b2 ⊗ nearest 0 1 ⊖ c .a2 ⊗ y ⊕ nearest 0 1 ≡ rungState c (i + 1) .z2 ⊕ nearest 0 1
+pub quiet-memory : (c : BiquadCoeffs) (i : ℕ) (y : Float) → 0 < i → y ≡ rungOutput c i → c .b2 ⊗ quotient 0 1 ⊖ c .a2 ⊗ y ⊕ quotient 0 1 ≡ rungState c (i + 1) .z2 ⊕ quotient 0 1
 unfolding rungState tickOf
 quiet-memory c zero y l e = absurd (lt-irrefl 0 l)
 quiet-memory c (suc i) y l e = rw (e, add-one (suc i))

@@ -12,14 +12,14 @@ use lib.Ieee.Fits.{mul-fits}
 use lib.Ieee.Exact.{HasValue}
 use lib.Ieee.Back.{round-whole}
 use lib.Ieee.Positive.{num, den, den-pos}
-use Rattle.float.specs.inner.Range.{plain, Within, Below, Mag}
+use Rattle.float.specs.inner.Range.{plain, Within, StrictlyWithin, Mag}
 use Rattle.float.proofs.Within.{Holds, value-plain, value-cross, value-within, mul-within, lt→cross, cross→lt, le→cross}
 use Rattle.float.proofs.Scaled.{scale-value}
 use Rattle.float.proofs.Fraction.{fraction-value, whole-is, not-lt}
 use Rattle.float.proofs.Unique.{plain-unique}
 use Rattle.float.proofs.Bounds.{round-neg, mul-neg, int-within}
 use Rattle.float.proofs.Mag.{within-mag, int-mag, mul-mag, add-mag}
-use Rattle.float.specs.F32.{nearest}
+use Rattle.float.specs.F32.{quotient}
 use Rattle.wave_table.specs.Wave.{quarterOf, signedQuarter, waveOf, Table}
 use Rattle.filters.specs.Wave.{Phase, placeOf, cellOf, restOf, lineOf, sineOf, quarterIn, signedIn, waveIn, lineIn, sineIn}
 use Rattle.wave_table.proofs.Every.{upTo-is}
@@ -36,7 +36,7 @@ place-value p t h =
     scale-value binary32 p 10 t (h .plain-is) (lit< tt)
     (lt-of-lt-of-le (mul-lt-mul-of-pos-right (under-one p h) (lit< tt)) (le-trans (le-of-eq (mul-comm (den p) 1024)) (mul-le-mul-right (den p) (lit≤ tt))))
 
-pub place-below : (p : Float) → T (fits binary32 p) → Phase p → Below 1024 1 (placeOf p)
+pub place-below : (p : Float) → T (fits binary32 p) → Phase p → StrictlyWithin 1024 1 (placeOf p)
 place-below p t h =
     let q = placeOf p in
     let v = place-value p t h in
@@ -191,31 +191,31 @@ sine-mag p t h =
 
 -- ---- what `sine` answers
 -- by the comparisons above 0 and below 1 is a phase
-pub phase-is : (p : Float) → T (lt (nearest 0 1) p) → T (lt p (nearest 1 1)) → Phase p
+pub phase-is : (p : Float) → T (lt (quotient 0 1) p) → T (lt p (quotient 1 1)) → Phase p
 unfolding round lt
 phase-is nan h g = absurd h
 phase-is (inf true) h g = absurd h
 phase-is (inf false) h g = absurd g
 phase-is (fin true m e) h g = absurd h
-phase-is (fin false m e) h g = record { plain-is = tt; strict = lt→cross (fin false m e) (nearest 1 1) tt tt g }
+phase-is (fin false m e) h g = record { plain-is = tt; strict = lt→cross (fin false m e) (quotient 1 1) tt tt g }
 
 -- a phase is below 1 by the comparison
-below-one : (p : Float) → Phase p → T (lt p (nearest 1 1))
+below-one : (p : Float) → Phase p → T (lt p (quotient 1 1))
 unfolding round
-below-one p h = cross→lt p (nearest 1 1) (h .plain-is) tt (h .strict)
+below-one p h = cross→lt p (quotient 1 1) (h .plain-is) tt (h .strict)
 
 -- and, where it is not above 0, it is 0
-not-above : (p : Float) → T (fits binary32 p) → Phase p → lt (nearest 0 1) p ≡ false → p ≡ nearest 0 1
+not-above : (p : Float) → T (fits binary32 p) → Phase p → lt (quotient 0 1) p ≡ false → p ≡ quotient 0 1
 unfolding round fits
 not-above p t h l =
-    plain-unique binary32 p (nearest 0 1) t tt (h .plain-is) tt
-    (none (num p) (den p) (le→cross p (nearest 0 1) (h .plain-is) tt (not-lt (nearest 0 1) p tt (h .plain-is) l)))
+    plain-unique binary32 p (quotient 0 1) t tt (h .plain-is) tt
+    (none (num p) (den p) (le→cross p (quotient 0 1) (h .plain-is) tt (not-lt (quotient 0 1) p tt (h .plain-is) l)))
   where
     none : (a b : ℕ) → a * 1 ≤ 0 * b → a * 1 ≡ 0 * b
     none a b h = omega arith
 
 -- LAW: S(0) is 0
-pub zero-sine : nearest 0 1 ≡ sineOf (nearest 0 1)
+pub zero-sine : quotient 0 1 ≡ sineOf (quotient 0 1)
 unfolding sineOf waveOf quarterOf round mul add sub ofInt toUnsigned
 zero-sine = refl
 
@@ -268,9 +268,9 @@ module _ (xs : List ℕ) (t : Table xs) where
   -- LAW: over the table and of a phase the answer is S
   pub sine-in : (p : Float) → T (fits binary32 p) → Phase p → sineIn xs p ≡ sineOf p
   unfolding sineIn
-  sine-in p f h = go (lt (nearest 0 1) p) (lt p (nearest 1 1)) (below-one p h) (not-above p f h)
+  sine-in p f h = go (lt (quotient 0 1) p) (lt p (quotient 1 1)) (below-one p h) (not-above p f h)
     where
-      go : (a b : Bool) → T b → (a ≡ false → p ≡ nearest 0 1) → cond (a && b) (lineIn xs p) (nearest 0 1) ≡ sineOf p
+      go : (a b : Bool) → T b → (a ≡ false → p ≡ quotient 0 1) → cond (a && b) (lineIn xs p) (quotient 0 1) ≡ sineOf p
       go true true u v = line-in p f h
       go false true u v = zero-sine ∙ ap sineOf (sym (v refl))
       go a false u v = absurd u

@@ -13,7 +13,7 @@ use lib.Ieee.Fits.{down-pos, and-r}
 use Rattle.float.specs.inner.Range.{Within}
 use Rattle.float.proofs.Within.{le→cross, cross→le}
 use Rattle.float.proofs.Bounds.{le-or-lt}
-use Rattle.float.specs.F32.{nearest}
+use Rattle.float.specs.F32.{quotient}
 use Rattle.filters.specs.Rate.{Rate}
 
 not-zero : (a : ℕ) → 0 < a → a ≡ 0 → ⊥
@@ -78,13 +78,13 @@ between-within n j k i N (fin false m e) h g = go (le-or-lt (k * 2 ^ i * down e)
     go (inr l) = record { plain-is = tt; upper = le-of-lt l }
 
 -- LAW: from 8,000 to 192,000 by the comparisons is a sample rate
-pub rate-is : (x : Float) → T (le (nearest 8000 1) x) → T (le x (nearest 192000 1)) → Rate x
+pub rate-is : (x : Float) → T (le (quotient 8000 1) x) → T (le x (quotient 192000 1)) → Rate x
 unfolding round le lt eq
 rate-is nan h g = absurd h
 rate-is (inf true) h g = absurd h
 rate-is (inf false) h g = absurd g
 rate-is (fin true m e) h g = absurd (not-negative 125 6 (lit< tt) m e h)
 rate-is (fin false m e) h g = record {
-  lower = le-trans (le→cross (nearest 8000 1) (fin false m e) tt tt h) (le-of-eq (mul-one (m * up e)));
-  upper = record { plain-is = tt; upper = le→cross (fin false m e) (nearest 192000 1) tt tt g };
+  lower = le-trans (le→cross (quotient 8000 1) (fin false m e) tt tt h) (le-of-eq (mul-one (m * up e)));
+  upper = record { plain-is = tt; upper = le→cross (fin false m e) (quotient 192000 1) tt tt g };
 }

@@ -15,7 +15,7 @@ use lib.Ieee.Scale.{round-same}
 use Rattle.float.proofs.Within.{sub-is}
 use Rattle.float.proofs.Unique.{cross-unique, round-self}
 use Rattle.float.proofs.Bounds.{round-neg, sub-positive}
-use Rattle.float.specs.F32.{_⊕_, _⊖_, nearest}
+use Rattle.float.specs.F32.{_⊕_, _⊖_, quotient}
 use Rattle.filters.specs.Compensation.{plusZero}
 
 -- the two zeros
@@ -282,7 +282,7 @@ less-is (fin s zero e) z h k = subst (λ (w : Float). Less w z) (sym (zero-is s 
 less-is (fin s (suc m) e) z h k = less-some s m e z h k
 
 -- ---- what the tests of +0 say
-pub plus-zero-is : (x : Float) → T (fits binary32 x) → T (plusZero x) → x ≡ nearest 0 1
+pub plus-zero-is : (x : Float) → T (fits binary32 x) → T (plusZero x) → x ≡ quotient 0 1
 unfolding round
 plus-zero-is nan h k = absurd k
 plus-zero-is (inf s) h k = absurd k

@@ -4,11 +4,11 @@ use mathlib.Core.Bool.{Bool, _&&_}
 use lib.Ieee.{Float, le}
 use lib.Ieee.Positive.{num, den}
 use Rattle.float.specs.inner.Range.{Within}
-use Rattle.float.specs.F32.{nearest}
+use Rattle.float.specs.F32.{quotient}
 
 -- question 11: finite and 8,000 to 192,000 (a NaN and an infinity fail)
 abbrev pub rateOk : Float → Bool
-rateOk r = le (nearest 8000 1) r && le r (nearest 192000 1)
+rateOk r = le (quotient 8000 1) r && le r (quotient 192000 1)
 
 -- the same as a fact: finite, from 8,000 to 192,000
 pub record Rate (x : Float) : Type 0 where

@@ -7,14 +7,14 @@ use lib.ListN.{getD}
 use lib.Dec.{leb}
 use lib.IntN.{ℤ, pos, negsuc, negℤ, _-ℤ_}
 use lib.Ieee.{Float, fin, binary32, lt, ofInt, toUnsigned}
-use Rattle.float.specs.inner.Range.{Below}
+use Rattle.float.specs.inner.Range.{StrictlyWithin}
 use Rattle.float.specs.Fraction.{fraction}
 use Rattle.wave_table.specs.Wave.{waveOf}
-use Rattle.float.specs.F32.{_⊕_, _⊗_, nearest}
+use Rattle.float.specs.F32.{_⊕_, _⊗_, quotient}
 
 -- p, a phase: turns, at least 0 and below 1
 abbrev pub Phase : Float → Type 0
-Phase p = Below 1 1 p
+Phase p = StrictlyWithin 1 1 p
 
 -- q = p * 1024
 abbrev pub placeOf : Float → Float
@@ -64,4 +64,4 @@ lineIn xs p =
 
 -- above 0 and below 1 the line's value; 0, as S(0) is, for every other p: 0, -0, what is outside, a NaN
 unfoldable pub sineIn : List ℕ → Float → Float
-sineIn xs p = cond (lt (nearest 0 1) p && lt p (nearest 1 1)) (lineIn xs p) (nearest 0 1)
+sineIn xs p = cond (lt (quotient 0 1) p && lt p (quotient 1 1)) (lineIn xs p) (quotient 0 1)

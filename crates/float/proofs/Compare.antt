@@ -10,7 +10,7 @@ use lib.Ieee.{Float, nan, inf, fin, up, down, lt, le, below, level}
 use lib.Ieee.Fits.{and-i, eq→eqb}
 use lib.Ieee.Scale.{finite}
 use lib.Ieee.Positive.{num, den, positive, above, above-of-le}
-use Rattle.float.specs.inner.Range.{plain, Within, Below, AtLeast}
+use Rattle.float.specs.inner.Range.{plain, Within, StrictlyWithin, AtLeast}
 use Rattle.float.proofs.Within.{le→cross}
 use Rattle.float.proofs.Subnormal.{positive-plain}
 
@@ -103,5 +103,5 @@ finite-above (fin false m e) f a = tt
 pub over-positive : (x y : Float) → T (finite x) → T (positive y) → T (le y x) → AtLeast (num y) (den y) x
 over-positive x y f p h = le-at-least x y (finite-above x f (above-of-le y x p h)) (positive-plain y p) h
 
-pub below-within : (a c : ℕ) (x : Float) → Below a c x → Within a c x
+pub below-within : (a c : ℕ) (x : Float) → StrictlyWithin a c x → Within a c x
 below-within a c x w = record { plain-is = w .plain-is; upper = le-of-lt (w .strict) }

@@ -19,6 +19,6 @@ x ⊗ y = mul binary32 x y
 abbrev pub _⊘_ : Float → Float → Float
 x ⊘ y = div binary32 x y
 
--- the f32 nearest to a / c: a number of the source, 0.05 as `nearest 5 100`
-abbrev pub nearest : ℕ → ℕ → Float
-nearest a c = round binary32 false a c
+-- the f32 nearest to a / c: a number of the source, 0.05 as `quotient 5 100`
+abbrev pub quotient : ℕ → ℕ → Float
+quotient a c = round binary32 false a c

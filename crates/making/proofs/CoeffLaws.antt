@@ -13,8 +13,8 @@ use Rattle.table.specs.Answer.{refusalOf}
 use Rattle.table.specs.Table.{PitchEntry, mPartials, coefficientAt}
 use Rattle.table.specs.View.{entryAt}
 use Rattle.table.proofs.WordLaws.{length-words}
-use Rattle.float.specs.F32.{nearest}
-use Rattle.making.specs.Making.{f32, sizesOk, partialCoeff, noiseCoeff, isNonzero, reach, reachIn, liveIn}
+use Rattle.float.specs.F32.{quotient}
+use Rattle.making.specs.Making.{f32, sizesOk, partialCoeff, noiseCoeff, isNonzero, partialReach, reachIn, liveIn}
 use Rattle.voice.proofs.Loops.{both-true}
 
 -- M is what the view says
@@ -24,13 +24,13 @@ partials-are s v = length-words s (v .«partials_at») (v .«m_partials»)
 pub partial-there : (s : List ℕ) (v : EntryView) (c i : ℕ) → i < v .«m_partials» → partialCoeff (entryAt s v) c i ≡ f32 (coefficientAt (entryAt s v) c i)
 partial-there s v c i h = rw (partials-are s v, lt-ltb i (v .«m_partials») h) refl
 
-pub partial-lacking : (s : List ℕ) (v : EntryView) (c i : ℕ) → v .«m_partials» ≤ i → partialCoeff (entryAt s v) c i ≡ nearest 0 1
+pub partial-lacking : (s : List ℕ) (v : EntryView) (c i : ℕ) → v .«m_partials» ≤ i → partialCoeff (entryAt s v) c i ≡ quotient 0 1
 partial-lacking s v c i h = rw (partials-are s v, le-ltb i (v .«m_partials») h) refl
 
 pub noise-there : (s : List ℕ) (v : EntryView) (c b : ℕ) → b < v .«j_noise» → noiseCoeff (entryAt s v) c b ≡ f32 (coefficientAt (entryAt s v) c (v .«m_partials» + b))
 noise-there s v c b h = rw (partials-are s v, lt-ltb b (v .«j_noise») h) refl
 
-pub noise-lacking : (s : List ℕ) (v : EntryView) (c b : ℕ) → v .«j_noise» ≤ b → noiseCoeff (entryAt s v) c b ≡ nearest 0 1
+pub noise-lacking : (s : List ℕ) (v : EntryView) (c b : ℕ) → v .«j_noise» ≤ b → noiseCoeff (entryAt s v) c b ≡ quotient 0 1
 noise-lacking s v c b h = rw (le-ltb b (v .«j_noise») h) refl
 
 -- question 8 of one entry
@@ -56,14 +56,14 @@ module _ {A : Type 0} (f : ℕ → A) (test : ℕ → Bool) (found : ℕ → A) 
   down-miss (suc i) e h t = let q : suc i - 1 ≡ i = omega arith in rw q (rw (rw q at t) at (sym (step i) ∙ e))
 
 -- so the highest partial that is not 0 is found
-module _ (e : PitchEntry) (c n i : ℕ) (so : reach e c i ≡ reach e c n) (h : 0 < i) where
-  pub reach-hit : isNonzero (partialCoeff e c (i - 1)) ≡ true → i ≡ reach e c n
-  unfolding reach
-  reach-hit t = down-hit (reach e c) (λ i. isNonzero (partialCoeff e c i)) (λ i. i) (λ i. refl) n i so h t
+module _ (e : PitchEntry) (c n i : ℕ) (so : partialReach e c i ≡ partialReach e c n) (h : 0 < i) where
+  pub reach-hit : isNonzero (partialCoeff e c (i - 1)) ≡ true → i ≡ partialReach e c n
+  unfolding partialReach
+  reach-hit t = down-hit (partialReach e c) (λ i. isNonzero (partialCoeff e c i)) (λ i. i) (λ i. refl) n i so h t
 
-  pub reach-miss : isNonzero (partialCoeff e c (i - 1)) ≡ false → reach e c (i - 1) ≡ reach e c n
-  unfolding reach
-  reach-miss t = down-miss (reach e c) (λ i. isNonzero (partialCoeff e c i)) (λ i. i) (λ i. refl) n i so h t
+  pub reach-miss : isNonzero (partialCoeff e c (i - 1)) ≡ false → partialReach e c (i - 1) ≡ partialReach e c n
+  unfolding partialReach
+  reach-miss t = down-miss (partialReach e c) (λ i. isNonzero (partialCoeff e c i)) (λ i. i) (λ i. refl) n i so h t
 
 or-pick : (a b : Bool) → a || b ≡ cond a true b
 or-pick true b = refl
@@ -79,7 +79,7 @@ module _ (e : PitchEntry) (b n q : ℕ) (so : liveIn e b q ≡ liveIn e b n) (h 
   unfolding liveIn
   live-miss t = down-miss (liveIn e b) (λ q. isNonzero (noiseCoeff e q b)) (λ q. true) (λ q. or-pick (isNonzero (noiseCoeff e q b)) (liveIn e b q)) n q so h t
 
-pub reach-next : (e : PitchEntry) (q : ℕ) → reachIn e (q + 1) ≡ max (reachIn e q) (reach e q (mPartials e))
+pub reach-next : (e : PitchEntry) (q : ℕ) → reachIn e (q + 1) ≡ max (reachIn e q) (partialReach e q (mPartials e))
 unfolding reachIn
 reach-next e q = rw add-one refl
 

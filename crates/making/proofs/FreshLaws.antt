@@ -17,13 +17,13 @@ use Rattle.table.specs.declared.desk.Kind.{Kind}
 use Rattle.table.specs.Table.{PitchEntry, mPartials, hasChannel, metadataValue}
 use Rattle.table.specs.Decode.{decode, entriesOf}
 use Rattle.table.specs.Desk.{bandCount}
-use Rattle.float.specs.F32.{nearest}
+use Rattle.float.specs.F32.{quotient}
 use Rattle.voice.specs.Lists.{steps, joinTo, every, padded}
 use Rattle.voice.specs.Voice.{pitchOk, stretchOk, phaseOk, pitchesAscend, bandsAscend, countsOk, entriesOk, liveOk, phasesOk, rulesOf, keepsRules, pitches, stretches, bandAt}
 use Rattle.filters.specs.Biquad.{noiseBand}
 use Rattle.filters.specs.Band.{zeroCoeffs}
 use Rattle.making.proofs.PutLaws.{length-mapped, getD-past, list-first, list-later, joinTo-at}
-use Rattle.making.specs.Making.{f32, all, sizesOk, valuesOk, keeps, insert, gathered, voiceEntries, channelCount, partialCoeff, isNonzero, presentFinite, mainlobeKey, noiseGainKey, reach, reachIn, most, phasesFor, phaseCount, isLive, liveBands, gainOf, coeffFloats, freshLists, freshVoice, Making, makeQuestion}
+use Rattle.making.specs.Making.{f32, all, sizesOk, valuesOk, keeps, insert, gathered, voiceEntries, channelCount, partialCoeff, isNonzero, presentFinite, mainlobeKey, noiseGainKey, partialReach, reachIn, most, phasesFor, phaseCount, isLive, liveBands, gainOf, coeffFloats, freshLists, freshVoice, Making, makeQuestion}
 use Rattle.voice.proofs.Loops.{both-true, length-joinTo}
 use Rattle.making.proofs.SortLaws.{all-insert, all-gathered, bands-few}
 use Rattle.making.proofs.MakingLaws.{Accepted, live-short}
@@ -142,10 +142,10 @@ ascends-at (x ∷ y ∷ l) (suc i) h k =
     let q : suc i + 1 ≡ suc (i + 1) = omega arith in
     rw q (ascends-at (y ∷ l) i (both-true (le (pitch x) (pitch y)) (ascends (y ∷ l)) h .1) (omega arith))
 
-pitches-ascend : (l : List PitchEntry) → ascends l ≡ true → pitchesAscend (padded 16 (nearest 0 1) (map pitch l)) (length l) ≡ true
+pitches-ascend : (l : List PitchEntry) → ascends l ≡ true → pitchesAscend (padded 16 (quotient 0 1) (map pitch l)) (length l) ≡ true
 pitches-ascend l h = every-is _ (length l - 1) λ i k.
     let n = length-map l pitch in
-    rw (padded-at (nearest 0 1) nan 16 i (map pitch l) (omega arith), padded-at (nearest 0 1) nan 16 (i + 1) (map pitch l) (omega arith)) (ascends-at l i h (omega arith))
+    rw (padded-at (quotient 0 1) nan 16 i (map pitch l) (omega arith), padded-at (quotient 0 1) nan 16 (i + 1) (map pitch l) (omega arith)) (ascends-at l i h (omega arith))
 
 -- ---- counts
 insert-length : (e : PitchEntry) (l : List PitchEntry) → length (insert e l) ≡ suc (length l)
@@ -171,12 +171,12 @@ channels-few : (k : Kind) (es : List PitchEntry) → channelCount k es ≤ 4
 channels-few (Kind.Single c) es = omega arith
 channels-few Kind.Blend es = omega arith
 
-reach-few : (e : PitchEntry) (c n : ℕ) → reach e c n ≤ n
-unfolding reach
+reach-few : (e : PitchEntry) (c n : ℕ) → partialReach e c n ≤ n
+unfolding partialReach
 reach-few e c zero = omega arith
 reach-few e c (suc n) = go (isNonzero (partialCoeff e c n)) (reach-few e c n)
   where
-    go : (b : Bool) → reach e c n ≤ n → cond b (suc n) (reach e c n) ≤ suc n
+    go : (b : Bool) → partialReach e c n ≤ n → cond b (suc n) (partialReach e c n) ≤ suc n
     go true h = omega arith
     go false h = omega arith
 
@@ -256,13 +256,13 @@ bands-ascend b l r = every-is _ (length l - 1) λ i k.
     rw (padded-at 0 0 16 i l (omega arith), padded-at 0 0 16 (i + 1) l (omega arith)) (lt-ltb (getD l i 0) (getD l (i + 1) 0) (r .up i (omega arith)))
 
 -- ---- phases are 0
-zero-phase : phaseOk (nearest 0 1) ≡ true
+zero-phase : phaseOk (quotient 0 1) ≡ true
 unfolding round lt le eq
 zero-phase = refl
 
-phases-ok : (m : ℕ) → m ≤ 32 → phasesOk (replicate 32 (nearest 0 1)) m ≡ true
+phases-ok : (m : ℕ) → m ≤ 32 → phasesOk (replicate 32 (quotient 0 1)) m ≡ true
 unfolding phasesOk
-phases-ok m h = every-is _ m λ i k. ap phaseOk (getD-replicate 32 i (nearest 0 1) nan (omega arith)) ∙ zero-phase
+phases-ok m h = every-is _ m λ i k. ap phaseOk (getD-replicate 32 i (quotient 0 1) nan (omega arith)) ∙ zero-phase
 
 -- ---- the whole
 value-pitch : (e : PitchEntry) → valuesOk e ≡ true → pitchOk (pitch e) ≡ true
@@ -278,19 +278,19 @@ and-true a b p q = rw (p, q) refl
 
 -- ---- what a fresh voice's lists hold, by their names
 abbrev column : (PitchEntry → Float) → List PitchEntry → List Float
-column g vs = padded 16 (nearest 0 1) (map g vs)
+column g vs = padded 16 (quotient 0 1) (map g vs)
 
 module _ (k : Kind) (es : List PitchEntry) (rate : Float) (centres : List Float) (few : length (voiceEntries k es) ≤ 16) where
   sized : (g : PitchEntry → Float) → length (column g (voiceEntries k es)) ≡ 16
-  sized g = length-mapped g (nearest 0 1) 16 (voiceEntries k es) few
+  sized g = length-mapped g (quotient 0 1) 16 (voiceEntries k es) few
 
   -- LAW
-  pub fresh-pitches : pitches (freshVoice k es rate centres) ≡ padded 16 (nearest 0 1) (map (λ e. f32 (e .f0Hz)) (voiceEntries k es))
+  pub fresh-pitches : pitches (freshVoice k es rate centres) ≡ padded 16 (quotient 0 1) (map (λ e. f32 (e .f0Hz)) (voiceEntries k es))
   unfolding freshVoice freshLists
   fresh-pitches = list-first (column pitch (voiceEntries k es)) _ (sized pitch)
 
   -- LAW
-  pub fresh-stretches : stretches (freshVoice k es rate centres) ≡ padded 16 (nearest 0 1) (map (λ e. f32 (e .stretch)) (voiceEntries k es))
+  pub fresh-stretches : stretches (freshVoice k es rate centres) ≡ padded 16 (quotient 0 1) (map (λ e. f32 (e .stretch)) (voiceEntries k es))
   unfolding freshVoice freshLists
   fresh-stretches =
       list-later (column pitch (voiceEntries k es)) _ 0 (sized pitch)
@@ -346,8 +346,8 @@ module _ (k : Kind) (es : List PitchEntry) (rate : Float) (centres : List Float)
       let s = all-imp valuesOk (λ (e : PitchEntry). stretchOk (f32 (e .stretch))) (voiceEntries k es) value-stretch v in
       let g = gathered-ascends k [] es refl (all-imp valuesOk (λ (e : PitchEntry). pitchOk (pitch e)) es value-pitch (a .values)) refl in
       simp (fresh-pitches k es rate centres entries-few, fresh-stretches k es rate centres entries-few)
-      (and-true _ _ (padded-all pitchOk pitch (nearest 0 1) 16 (voiceEntries k es) p)
-      (and-true _ _ (pitches-ascend (voiceEntries k es) (g .1)) (padded-all stretchOk (λ (e : PitchEntry). f32 (e .stretch)) (nearest 0 1) 16 (voiceEntries k es) s)))
+      (and-true _ _ (padded-all pitchOk pitch (quotient 0 1) 16 (voiceEntries k es) p)
+      (and-true _ _ (pitches-ascend (voiceEntries k es) (g .1)) (padded-all stretchOk (λ (e : PitchEntry). f32 (e .stretch)) (quotient 0 1) 16 (voiceEntries k es) s)))
 
   live-ok : liveOk (freshVoice k es rate centres .set) ≡ true
   unfolding liveOk freshVoice

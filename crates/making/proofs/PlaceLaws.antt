@@ -10,7 +10,7 @@ use Rattle.table.specs.declared.entry.EntryView.{EntryView}
 use Rattle.table.specs.declared.desk.Kind.{Kind}
 use Rattle.table.specs.Table.{PitchEntry}
 use Rattle.table.specs.View.{entryAt}
-use Rattle.float.specs.F32.{nearest}
+use Rattle.float.specs.F32.{quotient}
 use Rattle.voice.specs.Limits.{maxBlended}
 use Rattle.voice.specs.Lists.{upTo}
 use Rattle.voice.proofs.Loops.{upTo-again}
@@ -39,9 +39,9 @@ module _ (coeff : PitchEntry → ℕ → ℕ → Float) (w : ℕ) (pos : 0 < max
       rw (← p) (upTo-again places x l₀ out b so)
 
   pub place-full : (x size : ℕ) (out : List Float) → x ≤ size → x ≡ maxBlended * w * n
-      → out ≡ upTo places x ++ drop x (replicate size (nearest 0 1)) → out ≡ upTo places size
+      → out ≡ upTo places x ++ drop x (replicate size (quotient 0 1)) → out ≡ upTo places size
   unfolding coeffPlace
   place-full x size out b e so =
-      upTo-full places (nearest 0 1) x size out b
+      upTo-full places (quotient 0 1) x size out b
       (λ y h. ap (ofEntry (λ e. slotCoeff coeff w k m e y)) (nth-past s views n (y / (maxBlended * w)) l (row-past y n (maxBlended * w) pos (omega arith))))
       so

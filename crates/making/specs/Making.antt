@@ -12,7 +12,7 @@ use Rattle.table.specs.declared.desk.Kind.{Kind}
 use Rattle.table.specs.Table.{PitchEntry, CoeffTable, mPartials, hasChannel, coefficientAt, metadataValue}
 use Rattle.table.specs.Decode.{decode, entriesOf}
 use Rattle.table.specs.Desk.{bandCount}
-use Rattle.float.specs.F32.{nearest}
+use Rattle.float.specs.F32.{quotient}
 use Rattle.voice.specs.Lists.{upTo, joinTo, padded}
 use Rattle.voice.specs.Limits.{maxEntries, maxPartials, maxBands, maxBlended, listsPlaces, partialsPlaces, noisePlaces}
 use Rattle.filters.specs.Biquad.{noiseBand}
@@ -56,13 +56,13 @@ voiceEntries k es = gathered k [] es
 
 -- ---- coefficients: one that an entry lacks counts 0
 abbrev pub partialCoeff : PitchEntry → ℕ → ℕ → Float
-partialCoeff e c i = cond (ltb i (mPartials e)) (f32 (coefficientAt e c i)) (nearest 0 1)
+partialCoeff e c i = cond (ltb i (mPartials e)) (f32 (coefficientAt e c i)) (quotient 0 1)
 
 abbrev pub noiseCoeff : PitchEntry → ℕ → ℕ → Float
-noiseCoeff e c b = cond (ltb b (e .jNoise)) (f32 (coefficientAt e c (mPartials e + b))) (nearest 0 1)
+noiseCoeff e c b = cond (ltb b (e .jNoise)) (f32 (coefficientAt e c (mPartials e + b))) (quotient 0 1)
 
 abbrev pub isNonzero : Float → Bool
-isNonzero x = ne x (nearest 0 1)
+isNonzero x = ne x (quotient 0 1)
 
 -- ---- counts
 -- the largest count of any entry, 0 where there is none
@@ -79,14 +79,14 @@ channelCount (Kind.Single c) es = 1
 channelCount Kind.Blend es = min (mostChannels es) maxBlended
 
 -- one more than the highest of the first n partials that is not 0 in channel c; 0 where there is none
-unfoldable pub reach : PitchEntry → ℕ → ℕ → ℕ
-reach e c zero = 0
-reach e c (suc n) = cond (isNonzero (partialCoeff e c n)) (suc n) (reach e c n)
+unfoldable pub partialReach : PitchEntry → ℕ → ℕ → ℕ
+partialReach e c zero = 0
+partialReach e c (suc n) = cond (isNonzero (partialCoeff e c n)) (suc n) (partialReach e c n)
 
 -- the highest reach in the first n channels
 unfoldable pub reachIn : PitchEntry → ℕ → ℕ
 reachIn e zero = 0
-reachIn e (suc n) = max (reachIn e n) (reach e n (mPartials e))
+reachIn e (suc n) = max (reachIn e n) (partialReach e n (mPartials e))
 
 -- the phases that an entry needs: all its partials in a single voice that keeps it; in a blend of n channels, as far as they reach
 abbrev pub phasesFor : Kind → ℕ → PitchEntry → ℕ
@@ -124,7 +124,7 @@ noiseGainKey = 0x6E ∷ 0x6F ∷ 0x69 ∷ 0x73 ∷ 0x65 ∷ 0x5F ∷ 0x67 ∷ 0x
 
 abbrev pub gainOr1 : Option ℕ → Float
 gainOr1 (some v) = f32 v
-gainOr1 none = nearest 1 1
+gainOr1 none = quotient 1 1
 
 abbrev pub gainOf : List ℕ → PitchEntry → Float
 gainOf key e = gainOr1 (metadataValue key (e .metadata))
@@ -137,7 +137,7 @@ slotChannel Kind.Blend n q = cond (ltb q n) (some q) none
 
 abbrev pub inSlot : (ℕ → Float) → Option ℕ → Float
 inSlot f (some c) = f c
-inSlot f none = nearest 0 1
+inSlot f none = quotient 0 1
 
 abbrev pub nth : List PitchEntry → ℕ → Option PitchEntry
 nth [] i = none
@@ -146,7 +146,7 @@ nth (e ∷ es) (suc i) = nth es i
 
 abbrev pub ofEntry : (PitchEntry → Float) → Option PitchEntry → Float
 ofEntry f (some e) = f e
-ofEntry f none = nearest 0 1
+ofEntry f none = quotient 0 1
 
 -- what stands at place x of a flat array of coefficients: an entry after the other, of each four slots, of each w columns
 abbrev pub slotCoeff : (PitchEntry → ℕ → ℕ → Float) → ℕ → Kind → ℕ → PitchEntry → ℕ → Float
@@ -180,12 +180,12 @@ bandFloats bands = joinTo (λ b. coeffFloats (getD bands b zeroCoeffs)) maxBands
 -- the short lists: the entries' pitches, stretches and gains, the bands and their compensations. Places that are not in use are 0.
 unfoldable pub freshLists : List PitchEntry → Float → List Float → List Float
 freshLists vs rate centres =
-    padded maxEntries (nearest 0 1) (map (λ e. f32 (e .f0Hz)) vs)
-    ++ (padded maxEntries (nearest 0 1) (map (λ e. f32 (e .stretch)) vs)
-    ++ (padded maxEntries (nearest 0 1) (map (gainOf mainlobeKey) vs)
-    ++ (padded maxEntries (nearest 0 1) (map (gainOf noiseGainKey) vs)
+    padded maxEntries (quotient 0 1) (map (λ e. f32 (e .f0Hz)) vs)
+    ++ (padded maxEntries (quotient 0 1) (map (λ e. f32 (e .stretch)) vs)
+    ++ (padded maxEntries (quotient 0 1) (map (gainOf mainlobeKey) vs)
+    ++ (padded maxEntries (quotient 0 1) (map (gainOf noiseGainKey) vs)
     ++ (bandFloats (padded maxBands zeroCoeffs (map (λ c. noiseBand c rate) centres))
-    ++ padded maxBands (nearest 0 1) (map (λ c. bandCompensation c rate) centres)))))
+    ++ padded maxBands (quotient 0 1) (map (λ c. bandCompensation c rate) centres)))))
 
 -- what an accepted making answers: its numbers; of the entries kept, sorted by pitch, the short lists and the coefficients; the first state
 unfoldable pub freshVoice : Kind → List PitchEntry → Float → List Float → Voice
@@ -222,13 +222,13 @@ blankVoice =
       m = 0;
       j = 0;
       «live_count» = 0;
-      «sample_rate» = nearest 0 1;
+      «sample_rate» = quotient 0 1;
       live = replicate maxBands 0;
     })
-    (replicate listsPlaces (nearest 0 1))
-    (replicate partialsPlaces (nearest 0 1))
-    (replicate noisePlaces (nearest 0 1))
-    (stateOf (replicate maxPartials (nearest 0 1)) noMemories (record { state = 0 }))
+    (replicate listsPlaces (quotient 0 1))
+    (replicate partialsPlaces (quotient 0 1))
+    (replicate noisePlaces (quotient 0 1))
+    (stateOf (replicate maxPartials (quotient 0 1)) noMemories (record { state = 0 }))
 
 -- ---- questions 8 to 12
 -- 8: at most 16 entries, M 32, j 16 in each?

@@ -4,7 +4,7 @@ ghost use Prim.Native.Nat.{ℕ, _≤_};
 ghost use mathlib.Core.List.{List};
 ghost use Rattle.table.specs.View.{entryAt};
 ghost use Rattle.table.specs.Desk.{bandCount};
-ghost use Rattle.making.specs.Making.{mostChannels, channelCount, reach, reachIn, phasesFor, phaseCount};
+ghost use Rattle.making.specs.Making.{mostChannels, channelCount, partialReach, reachIn, phasesFor, phaseCount};
 ghost use Rattle.making.specs.inner.Views.{viewed};
 ghost use Rattle.voice.specs.Limits.{maxEntries, maxBlended};
 use crate::coeffs::partial_coeff;
@@ -64,7 +64,7 @@ pub fn channel_count(views: [EntryView; 16], count: usize, kind: Kind) -> u32
 
 // How far the first n partials of a channel reach.
 fn reach_of(s: &[u8], v: EntryView, c: u32, n: u32) -> u32
-    ensures { λ r. ⌜ r ≡ reach (entryAt (now (s .entry)) v) c n ⌝ }
+    ensures { λ r. ⌜ r ≡ partialReach (entryAt (now (s .entry)) v) c n ⌝ }
 {
     let mut i = n;
     while 0 < i {

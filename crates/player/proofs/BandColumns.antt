@@ -13,7 +13,7 @@ use lib.Ieee.{Float, nan}
 use borrow.Author.Tests.{eq-eqb, ltb-true}
 use Rattle.voice.specs.Lists.{steps}
 use Rattle.filters.specs.Biquad.{tickOf}
-use Rattle.player.specs.Bracket.{between}
+use Rattle.player.specs.Bracket.{valueBetween}
 use Rattle.voice.specs.Voice.{noiseGains, compensations, bandAt, memoryAt, withMemory}
 use Rattle.player.specs.Sound.{sidesAt, noiseRow, noiseIn, tickAt, noiseTerm, noiseSum, movedMemories}
 use Rattle.player.specs.inner.Passes.{LiveFit}
@@ -163,7 +163,7 @@ module _ (v : Voice) (K : LiveFit (v .set)) where
     filtered-at l h = ap (λ (t : Tick). t .y) (ticked-at l h)
 
   -- ---- the sum of a sample, where the columns are those of f0 and g
-  module _ (r : Rng) (ms : List Float) (f0 : Float) (g : List Float) (noiseGain : Float) (rows makeup ys : List Float) (eg : noiseGain ≡ between (noiseGains v) (sidesAt v f0))
+  module _ (r : Rng) (ms : List Float) (f0 : Float) (g : List Float) (noiseGain : Float) (rows makeup ys : List Float) (eg : noiseGain ≡ valueBetween (noiseGains v) (sidesAt v f0))
       (R : FilledRows rows (λ q l. noiseRow (v .noise) (sidesAt v f0) q (band l)) (cond (eqb (v .set .blend) 0) 1 (v .set .k)) (v .set .«live_count»))
       (M : Filled makeup (λ l. getD (compensations v) (band l) nan) (v .set .«live_count»))
       (Y : (l : ℕ) → l < v .set .«live_count» → getD ys l nan ≡ tickAt v (noiseIn r) ms (band l) .y) where

@@ -5,7 +5,7 @@ use mathlib.Core.List.{List, [], _∷_}
 use mathlib.Core.Bool.{false}
 use lib.Ieee.{Float, round, add, sub, div, ofInt, toUnsigned, lt, eq, le}
 use lib.Ieee.Exact.{HasValue}
-use Rattle.float.specs.F32.{nearest}
+use Rattle.float.specs.F32.{quotient}
 use Rattle.player.specs.Phase.{advanceOf}
 use Rattle.filters.specs.Rng.{bipolarOf, newRng, nextBipolar}
 use Rattle.wave_table.specs.Wave.{quarterOf}
@@ -25,7 +25,7 @@ unfolding quarterOf
 p7 = record { at-0 = refl; at-1 = refl; at-64 = refl; at-128 = refl; at-256 = refl }
 
 -- P8: phase 0.75 gaining 0.5 is 0.25
-pub p8 : advanceOf (nearest 3 4) (nearest 1 2) ≡ nearest 1 4
+pub p8 : advanceOf (quotient 3 4) (quotient 1 2) ≡ quotient 1 4
 unfolding round add sub ofInt toUnsigned
 p8 = refl
 
@@ -40,19 +40,19 @@ p9 = record { state = refl; value = (refl, refl) }
 
 -- P10: pitches 100, 200, 400: 100 gives entry 0; 200 gives 1 and 2, t = 0; 300 the same pair, t = 0.5; 400 entry 2
 abbrev pitches : List Float
-pitches = nearest 100 1 ∷ nearest 200 1 ∷ nearest 400 1 ∷ []
+pitches = quotient 100 1 ∷ quotient 200 1 ∷ quotient 400 1 ∷ []
 
 pub record P10 : Type 0 where
-  pub at-100 : bracketOf pitches 3 (nearest 100 1) ≡ Bracket.One 0
-  pub at-200 : bracketOf pitches 3 (nearest 200 1) ≡ Bracket.Between 1 2 (nearest 0 1)
-  pub at-300 : bracketOf pitches 3 (nearest 300 1) ≡ Bracket.Between 1 2 (nearest 1 2)
-  pub at-400 : bracketOf pitches 3 (nearest 400 1) ≡ Bracket.One 2
+  pub at-100 : bracketOf pitches 3 (quotient 100 1) ≡ Bracket.One 0
+  pub at-200 : bracketOf pitches 3 (quotient 200 1) ≡ Bracket.Between 1 2 (quotient 0 1)
+  pub at-300 : bracketOf pitches 3 (quotient 300 1) ≡ Bracket.Between 1 2 (quotient 1 2)
+  pub at-400 : bracketOf pitches 3 (quotient 400 1) ≡ Bracket.One 2
 
 pub p10 : P10
 unfolding bracketOf notAbove neighbours round le lt eq add sub div
 p10 = record { at-100 = refl; at-200 = refl; at-300 = refl; at-400 = refl }
 
 -- P11: pitches 100, 200, 200, 400 at 200: entries 2 and 3
-pub p11 : bracketOf (nearest 100 1 ∷ nearest 200 1 ∷ nearest 200 1 ∷ nearest 400 1 ∷ []) 4 (nearest 200 1) ≡ Bracket.Between 2 3 (nearest 0 1)
+pub p11 : bracketOf (quotient 100 1 ∷ quotient 200 1 ∷ quotient 200 1 ∷ quotient 400 1 ∷ []) 4 (quotient 200 1) ≡ Bracket.Between 2 3 (quotient 0 1)
 unfolding bracketOf notAbove neighbours round le lt eq add sub div
 p11 = refl

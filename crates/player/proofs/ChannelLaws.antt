@@ -6,7 +6,7 @@ use Prim.Native.Nat.{ℕ, zero, suc, _<_}
 use lib.ListN.{length, getD}
 use lib.Dec.{eqb}
 use lib.Ieee.{Float, nan}
-use Rattle.float.specs.F32.{nearest}
+use Rattle.float.specs.F32.{quotient}
 use Rattle.voice.specs.Lists.{mapTo, upTo, steps}
 use Rattle.voice.specs.Input.{Call, partOf, frequencyOf, gainsOf, frequencyAt, gainsAt, cleaned}
 use Rattle.voice.specs.Voice.{voiceOf, stateOf}
@@ -61,7 +61,7 @@ module _ (v : Voice) (freq : ℕ → Float) (g : ℕ → List Float) where
   unfolding phasesAt movedPhases mapTo
   same-phases e n = rw e (sym (steps-same (v .state .phases) n))
 
-  pub no-partials : v .set .m ≡ 0 → (n : ℕ) → upTo (λ i. nearest 0 1) n ≡ partialsOut v freq g n
+  pub no-partials : v .set .m ≡ 0 → (n : ℕ) → upTo (λ i. quotient 0 1) n ≡ partialsOut v freq g n
   unfolding partialsOut partialSum steps
   no-partials e n = rw e
 
@@ -100,7 +100,7 @@ module _ (set : Setting) (lists partials noise phases memories : List Float) (rn
   Ends r ps ms ys = ChannelPlayed whole freq g n r ps ms ys
 
   -- LAW: no entry: nothing moves, and it is silent
-  pub ends-still : eqb (set .count) 0 ≡ true → (ys : List Float) → ys ≡ upTo (λ i. nearest 0 1) n → Ends rng phases memories ys
+  pub ends-still : eqb (set .count) 0 ≡ true → (ys : List Float) → ys ≡ upTo (λ i. quotient 0 1) n → Ends rng phases memories ys
   ends-still C ys e = record { ends = still whole freq g n C; written = e ∙ silent whole freq g n C }
 
   -- the first pass writes every sample

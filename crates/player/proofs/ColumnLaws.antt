@@ -11,7 +11,7 @@ use lib.Seq.{getD-set-same, getD-set-other, lt-length-set}
 use lib.Dec.{T}
 use lib.Ieee.{Float, nan, binary32, fits, eq, ne}
 use lib.Ieee.Fits.{add-fits}
-use Rattle.float.specs.F32.{_⊕_, nearest}
+use Rattle.float.specs.F32.{_⊕_, quotient}
 use Rattle.float.proofs.Identities.{add-minus-zero}
 use Rattle.voice.specs.Lists.{mapTo, steps}
 use Rattle.filters.specs.Biquad.{tickOf}
@@ -149,25 +149,25 @@ ticked-full ys w1 w2 z1 z2 cs x l n e K = rw e at K
 -- ---- a term is stored, and -0 over it where the coefficient is 0
 -- LAW: adding what is audible, or -0 where nothing is, is adding where something is audible
 pub add-audible : (y c x : Float) → T (fits binary32 y) → y ⊕ audible c x ≡ added y c x
-add-audible y c x F = go (ne c (nearest 0 1))
+add-audible y c x F = go (ne c (quotient 0 1))
   where
     go : (b : Bool) → y ⊕ cond b x minusZero ≡ cond b (y ⊕ x) y
     go true = refl
     go false = add-minus-zero y F
 
-pub audible-is : (c x : Float) → eq c (nearest 0 1) ≡ false → x ≡ audible c x
+pub audible-is : (c x : Float) → eq c (quotient 0 1) ≡ false → x ≡ audible c x
 unfolding ne
 audible-is c x h = rw h
 
-pub silent-is : (c x : Float) → eq c (nearest 0 1) ≡ true → minusZero ≡ audible c x
+pub silent-is : (c x : Float) → eq c (quotient 0 1) ≡ true → minusZero ≡ audible c x
 unfolding ne
 silent-is c x h = rw h
 
 module _ (f : ℕ → Float) (xs : List Float) (n : ℕ) (c x : Float) where
-  pub audible-again : (v : Float) → n < length xs → audible c x ≡ f n → eq c (nearest 0 1) ≡ false → v ≡ x → Filled xs f n → Filled (set xs n v) f (n + 1)
+  pub audible-again : (v : Float) → n < length xs → audible c x ≡ f n → eq c (quotient 0 1) ≡ false → v ≡ x → Filled xs f n → Filled (set xs n v) f (n + 1)
   audible-again v h e z q F = filled-again f xs n v h (q ∙ audible-is c x z ∙ e) F
 
-  pub silent-again : (v w : Float) → n < length xs → audible c x ≡ f n → eq c (nearest 0 1) ≡ true → w ≡ minusZero → Filled xs f n → Filled (set (set xs n v) n w) f (n + 1)
+  pub silent-again : (v w : Float) → n < length xs → audible c x ≡ f n → eq c (quotient 0 1) ≡ true → w ≡ minusZero → Filled xs f n → Filled (set (set xs n v) n w) f (n + 1)
   silent-again v w h e z q F =
       filled-again f (set xs n v) n w (lt-length-set xs n v h) (q ∙ silent-is c x z ∙ e) (record { at = λ i l. getD-set-other xs n i v nan (λ p. absurd (omega arith)) ∙ F .at i l })
 

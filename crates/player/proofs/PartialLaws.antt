@@ -9,7 +9,7 @@ use lib.Dec.{T, eqb}
 use lib.Ieee.{Float, nan, inf, fin, binary32, eq, fits, le}
 use Rattle.float.specs.inner.Range.{Within}
 use Rattle.float.proofs.Identities.{same-float}
-use Rattle.float.specs.F32.{nearest}
+use Rattle.float.specs.F32.{quotient}
 use Rattle.player.specs.inner.Columns.{Filled, FilledRows}
 use Rattle.voice.specs.Lists.{mapTo, steps, every}
 use Rattle.filters.specs.Wave.{sineOf}
@@ -17,7 +17,7 @@ use Rattle.player.specs.Phase.{AllPhases, AllSteps, Phase, Step, advance
 use Rattle.player.specs.Fade.{nyquistFade}
 use Rattle.voice.specs.Voice.{phaseOk, phasesOk, pitches, stretches, mainlobes, noiseGains}
 use Rattle.player.specs.Sound.{sidesAt, stepAt, fadeAt, partialRow, noiseRow, movedPhases, addSingle, partialTerm, partialSum}
-use Rattle.player.specs.Bracket.{bracketOf, sidesOf, between}
+use Rattle.player.specs.Bracket.{bracketOf, sidesOf, valueBetween}
 use Rattle.player.specs.inner.Terms.{partialAdded}
 use Rattle.player.specs.inner.Tuning.{Tuned, NoiseTuned, rowsIn}
 use Rattle.player.specs.declared.pitch.bracket.Sides.{Sides}
@@ -42,9 +42,9 @@ mapped-same f g k (suc n) (x ∷ l) h =
 
 -- the partials' columns of a voice at the frequency f0
 pub record TunedVoice (v : Voice) (f0 : Float) (incs fades rows : List Float) (t : Tuning) : Type 0 where
-  pub mainlobe : t .mainlobe ≡ between (mainlobes v) (sidesAt v f0)
+  pub mainlobe : t .mainlobe ≡ valueBetween (mainlobes v) (sidesAt v f0)
   pub safe : AllSteps incs (v .set .m)
-  pub small : t .small ≡ every (λ i. le (getD incs i nan) (nearest 31 32)) (v .set .m)
+  pub small : t .small ≡ every (λ i. le (getD incs i nan) (quotient 31 32)) (v .set .m)
   pub steps-are : Filled incs (λ i. stepAt v f0 i) (v .set .m)
   pub fading : Filled fades (λ i. fadeAt v f0 i) (v .set .m)
   pub rows-are : FilledRows rows (λ q i. partialRow (v .partials) (sidesAt v f0) q i) (cond (eqb (v .set .blend) 0) 1 (v .set .k)) (v .set .m)
@@ -58,7 +58,7 @@ module _ (v : Voice) (x : Constants) (X : ConstantsOf v x) (incs fades rows : Li
   tuned-voice f0 T = record {
     mainlobe = T .mainlobe;
     safe = rw (← X .2) (T .safe);
-    small = T .small ∙ ap (λ (m : ℕ). every (λ i. le (getD incs i nan) (nearest 31 32)) m) (X .2);
+    small = T .small ∙ ap (λ (m : ℕ). every (λ i. le (getD incs i nan) (quotient 31 32)) m) (X .2);
     steps-are = rw (← X .2, ← X .3) (T .steps);
     fading = rw (← X .2, ← X .4) (T .fading);
     rows-are = rw (← X .0, ← X .1, ← X .2) (T .rows-are);
@@ -122,26 +122,26 @@ module _ (v : Voice) (f0 : Float) (incs fades rows : List Float) (t : Tuning) (T
         (partial-by-one v f0 g i y (advanceOf (getD ps i nan) (stepAt v f0 i)))
 
     -- LAW: what `partial_sum` ensures is the sum of the partials
-    pub partial-sum-is : (y : Float) → y ≡ steps (λ i y. partialAdded (v .set .blend) (v .set .k) rows (t .mainlobe) fades g sines i y) (nearest 0 1) (v .set .m) → y ≡ partialSum v f0 g ps
+    pub partial-sum-is : (y : Float) → y ≡ steps (λ i y. partialAdded (v .set .blend) (v .set .k) rows (t .mainlobe) fades g sines i y) (quotient 0 1) (v .set .m) → y ≡ partialSum v f0 g ps
     unfolding partialSum
-    partial-sum-is y e = e ∙ steps-as _ _ (nearest 0 1) (v .set .m) each
+    partial-sum-is y e = e ∙ steps-as _ _ (quotient 0 1) (v .set .m) each
 
 -- ---- columns that are filled anew
 module _ (x : Constants) (count : ℕ) (pitches stretches mainlobes partials : List Float) (f0 : Float) (p : Pitch)
-    (P : (p .f0 ≡ f0) × (p .s ≡ sidesOf (bracketOf pitches count f0)) × (p .stretch ≡ between stretches (p .s)) × (p .mainlobe ≡ between mainlobes (p .s)))
+    (P : (p .f0 ≡ f0) × (p .s ≡ sidesOf (bracketOf pitches count f0)) × (p .stretch ≡ valueBetween stretches (p .s)) × (p .mainlobe ≡ valueBetween mainlobes (p .s)))
     (freqs incs fades rows : List Float) (k : ℕ) (b : Bool) where
   -- the stretch between the sides of f0
-  stretch-is : p .stretch ≡ between stretches (sidesOf (bracketOf pitches count f0))
-  stretch-is = P .2 ∙ ap (λ (z : Sides). between stretches z) (P .1)
+  stretch-is : p .stretch ≡ valueBetween stretches (sidesOf (bracketOf pitches count f0))
+  stretch-is = P .2 ∙ ap (λ (z : Sides). valueBetween stretches z) (P .1)
 
   -- LAW: what `tune` fills is tuned to f0
   pub tuned-is : Within 8 1 (p .stretch) → Within 20000 1 f0 → Within 1 4096 (x .inv) → x .m ≤ 32 → k ≡ rowsIn x → Filled freqs (λ i. partialFreq (i + 1) f0 (p .stretch)) (x .m)
       → Filled incs (λ i. stepOf (i + 1) f0 (p .stretch) (x .inv)) (x .m) → Filled fades (λ i. nyquistFade (getD freqs i nan) (x .nyquist)) (x .m)
-      → FilledRows rows (λ q i. partialRow partials (p .s) q i) k (x .m) → b ≡ every (λ i. le (getD incs i nan) (nearest 31 32)) (x .m)
+      → FilledRows rows (λ q i. partialRow partials (p .s) q i) k (x .m) → b ≡ every (λ i. le (getD incs i nan) (quotient 31 32)) (x .m)
       → Tuned x count pitches stretches mainlobes partials f0 incs fades rows (record { f0 = f0; mainlobe = p .mainlobe; small = b })
   tuned-is W F I M ek A B C R S = record {
     at = refl;
-    mainlobe = P .3 ∙ ap (λ (z : Sides). between mainlobes z) (P .1);
+    mainlobe = P .3 ∙ ap (λ (z : Sides). valueBetween mainlobes z) (P .1);
     small = S;
     safe = record { at = λ i l. subst (λ (z : Float). Step z) (sym (B .at i l)) (step-small (i + 1) f0 (p .stretch) (x .inv) (omega arith) F W I) };
     steps = record { at = λ i l. B .at i l ∙ ap (λ (z : Float). stepOf (i + 1) f0 z (x .inv)) stretch-is };
@@ -151,10 +151,10 @@ module _ (x : Constants) (count : ℕ) (pitches stretches mainlobes partials : L
 
 -- LAW: what `tune_noise` fills is tuned to f0
 pub noise-tuned-is : (x : Constants) (count n : ℕ) (pitches noiseGains noise : List Float) (live : List ℕ) (f0 : Float) (s : Sides) (rows : List Float) (k : ℕ) (y : Float) → s ≡ sidesOf (bracketOf pitches count f0) → k ≡ rowsIn x
-    → FilledRows rows (λ q l. noiseRow noise s q (getD live l 0)) k n → y ≡ between noiseGains s
+    → FilledRows rows (λ q l. noiseRow noise s q (getD live l 0)) k n → y ≡ valueBetween noiseGains s
     → NoiseTuned x count n pitches noiseGains noise live f0 rows (record { f0 = f0; «noise_gain» = y })
 noise-tuned-is x count n pitches noiseGains noise live f0 s rows k y es ek N ey = record {
   at = refl;
-  noise-gain = ey ∙ ap (λ (z : Sides). between noiseGains z) es;
+  noise-gain = ey ∙ ap (λ (z : Sides). valueBetween noiseGains z) es;
   rows-are = record { at = λ q l h a. N .at q l (rw ek h) a ∙ ap (λ (z : Sides). noiseRow noise z q (getD live l 0)) es };
 }

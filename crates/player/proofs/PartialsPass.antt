@@ -9,13 +9,13 @@ use lib.Dec.{T, eqb}
 use lib.Ieee.{Float, nan, binary32, eq, fits}
 use Rattle.float.specs.inner.Range.{Within}
 use Rattle.float.proofs.Identities.{same-float}
-use Rattle.float.specs.F32.{nearest}
+use Rattle.float.specs.F32.{quotient}
 use Rattle.player.specs.inner.Columns.{Filled}
 use Rattle.voice.specs.Lists.{mapTo, upTo, steps}
 use Rattle.filters.specs.Wave.{sineOf}
 use Rattle.player.specs.Phase.{advanceOf, inverseOf, stepOf}
 use Rattle.voice.specs.Input.{cleaned}
-use Rattle.player.specs.Bracket.{between}
+use Rattle.player.specs.Bracket.{valueBetween}
 use Rattle.voice.specs.Voice.{phaseOk, phasesOk, pitches, stretches, mainlobes}
 use Rattle.player.specs.Sound.{sidesAt, stepAt, partialTerm, partialSum, movedPhases}
 use Rattle.player.specs.inner.Passes.{EntriesFit, phasesAt, partialsOut}
@@ -87,7 +87,7 @@ module _ (v : Voice) (x : Constants) (X : ConstantsOf v x) (freq : ℕ → Float
 
     -- LAW: what is stored is the sum of the partials
     pub sounds : (h sines : List Float) (y : Float) → h ≡ g i → Filled sines (λ i. sineOf (getD qs i nan)) (v .set .m)
-        → y ≡ steps (λ i y. partialAdded (v .set .blend) (v .set .k) rows (t .mainlobe) fades h sines i y) (nearest 0 1) (v .set .m)
+        → y ≡ steps (λ i y. partialAdded (v .set .blend) (v .set .k) rows (t .mainlobe) fades h sines i y) (quotient 0 1) (v .set .m)
         → y ≡ partialSum v (cleaned (freq i)) (g i) (phasesAt v freq i)
     sounds h sines y eh A e =
         partial-sum-is v f0 incs fades rows t held phases qs (G .ok) Q h sines A y e
@@ -95,7 +95,7 @@ module _ (v : Voice) (x : Constants) (X : ConstantsOf v x) (freq : ℕ → Float
 
 -- ---- few partials: one after the other
 abbrev pub PitchOf : Voice → Float → Pitch → Type 0
-PitchOf v f0 p = (p .f0 ≡ f0) × (p .s ≡ sidesAt v f0) × (p .stretch ≡ between (stretches v) (p .s)) × (p .mainlobe ≡ between (mainlobes v) (p .s))
+PitchOf v f0 p = (p .f0 ≡ f0) × (p .s ≡ sidesAt v f0) × (p .stretch ≡ valueBetween (stretches v) (p .s)) × (p .mainlobe ≡ valueBetween (mainlobes v) (p .s))
 
 -- LAW: phases that pass the test step to phases that pass it
 phases-step : (m : ℕ) (f0 stretch inv : Float) (ps : List Float) → m ≤ 32 → Within 20000 1 f0 → Within 8 1 stretch → Within 1 4096 inv → phasesOk ps m ≡ true
@@ -110,12 +110,12 @@ phases-step m f0 stretch inv ps M F S I h =
 
 module _ (v : Voice) (f0 : Float) (x : Constants) (p : Pitch) (X : ConstantsOf v x) (P : PitchOf v f0 p) where
   -- LAW: what `sample_of` answers is the sum of the partials
-  pub sample-of-is : (g ps : List Float) (y : Float) → y ≡ steps (λ i y. sampleAdded x p (v .partials) g ps i y) (nearest 0 1) (x .m) → y ≡ partialSum v f0 g ps
+  pub sample-of-is : (g ps : List Float) (y : Float) → y ≡ steps (λ i y. sampleAdded x p (v .partials) g ps i y) (quotient 0 1) (x .m) → y ≡ partialSum v f0 g ps
   unfolding partialSum
   sample-of-is g ps y e =
       e
       ∙ rw (X .0, X .1, X .2, X .3, X .4, P .2, P .3, P .1, P .0)
-      (steps-as _ _ (nearest 0 1) (v .set .m) (λ i l y. partial-by-one v f0 g i y (advanceOf (getD ps i nan) (stepAt v f0 i))))
+      (steps-as _ _ (quotient 0 1) (v .set .m) (λ i l y. partial-by-one v f0 g i y (advanceOf (getD ps i nan) (stepAt v f0 i))))
 
   -- LAW: its phases are those after the sample
   pub phases-is : (ps ls : List Float) → ls ≡ mapTo (λ i ph. advanceOf ph (stepOf (i + 1) (p .f0) (p .stretch) (x .inv))) 0 (x .m) ps → ls ≡ movedPhases v f0 ps

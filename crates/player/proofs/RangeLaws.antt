@@ -18,7 +18,7 @@ use Rattle.float.specs.Fraction.{fraction}
 use Rattle.float.proofs.Within.{Holds, on-plain, le→cross, lt→cross, cross→le, cross→lt, add-within, mul-within, sub-within, fits-holds}
 use Rattle.float.proofs.Bounds.{le-or-lt, up-to-self, round-neg, mul-neg}
 use Rattle.float.proofs.Fraction.{widen}
-use Rattle.float.specs.F32.{_⊕_, nearest}
+use Rattle.float.specs.F32.{_⊕_, quotient}
 use Rattle.player.specs.Phase.{Phase, Step, advanceOf, stepOf}
 use Rattle.voice.specs.Lists.{mapTo}
 use Rattle.voice.specs.Voice.{phaseOk, pitchOk, stretchOk, phasesOk}
@@ -38,7 +38,7 @@ so false t = absurd t
 not-zero : (a : ℕ) → 0 < a → a ≡ 0 → ⊥
 not-zero a h e = lt-irrefl 0 (lt-of-lt-of-le h (le-of-eq e))
 
-no-sign : (m : ℕ) (e : ℤ) → T (le (nearest 0 1) (fin true (suc m) e)) → ⊥
+no-sign : (m : ℕ) (e : ℤ) → T (le (quotient 0 1) (fin true (suc m) e)) → ⊥
 unfolding round le lt eq
 no-sign m e h =
     let a = suc m * up e * 1 in
@@ -47,35 +47,35 @@ no-sign m e h =
     lit-pos : (m : ℕ) → 0 < suc m
     lit-pos m = omega arith
 
-phase-or : (p : Float) → T (le (nearest 0 1) p) → T (lt p (nearest 1 1)) → Phase p ⊎ ((e : ℤ) × (p ≡ fin true 0 e))
+phase-or : (p : Float) → T (le (quotient 0 1) p) → T (lt p (quotient 1 1)) → Phase p ⊎ ((e : ℤ) × (p ≡ fin true 0 e))
 unfolding round le lt eq
 phase-or nan h g = absurd h
 phase-or (inf true) h g = absurd h
 phase-or (inf false) h g = absurd g
-phase-or (fin false m e) h g = inl (record { plain-is = tt; strict = lt→cross (fin false m e) (nearest 1 1) tt tt g })
+phase-or (fin false m e) h g = inl (record { plain-is = tt; strict = lt→cross (fin false m e) (quotient 1 1) tt tt g })
 phase-or (fin true zero e) h g = inr (e, refl)
 phase-or (fin true (suc m) e) h g = absurd (no-sign m e h)
 
-stretch-or : (s : Float) → T (le (nearest 0 1) s) → T (le s (nearest 4 1)) → Within 4 1 s ⊎ ((e : ℤ) × (s ≡ fin true 0 e))
+stretch-or : (s : Float) → T (le (quotient 0 1) s) → T (le s (quotient 4 1)) → Within 4 1 s ⊎ ((e : ℤ) × (s ≡ fin true 0 e))
 unfolding round le lt eq
 stretch-or nan h g = absurd h
 stretch-or (inf true) h g = absurd h
 stretch-or (inf false) h g = absurd g
-stretch-or (fin false m e) h g = inl (record { plain-is = tt; upper = le→cross (fin false m e) (nearest 4 1) tt tt g })
+stretch-or (fin false m e) h g = inl (record { plain-is = tt; upper = le→cross (fin false m e) (quotient 4 1) tt tt g })
 stretch-or (fin true zero e) h g = inr (e, refl)
 stretch-or (fin true (suc m) e) h g = absurd (no-sign m e h)
 
 -- LAW: a pitch is from 0 to 20,000
-pitch-is : (f : Float) → T (lt (nearest 0 1) f) → T (le f (nearest 20000 1)) → Within 20000 1 f
+pitch-is : (f : Float) → T (lt (quotient 0 1) f) → T (le f (quotient 20000 1)) → Within 20000 1 f
 unfolding round le lt eq
 pitch-is nan h g = absurd h
 pitch-is (inf true) h g = absurd h
 pitch-is (inf false) h g = absurd g
-pitch-is (fin false m e) h g = record { plain-is = tt; upper = le→cross (fin false m e) (nearest 20000 1) tt tt g }
+pitch-is (fin false m e) h g = record { plain-is = tt; upper = le→cross (fin false m e) (quotient 20000 1) tt tt g }
 pitch-is (fin true m e) h g = absurd h
 
 pub pitch-within : (f : Float) → pitchOk f ≡ true → Within 20000 1 f
-pitch-within f h = let p = both-true (lt (nearest 0 1) f) (le f (nearest 20000 1)) h in pitch-is f (hold _ (p .0)) (hold _ (p .1))
+pitch-within f h = let p = both-true (lt (quotient 0 1) f) (le f (quotient 20000 1)) h in pitch-is f (hold _ (p .0)) (hold _ (p .1))
 
 -- of two floats with no sign, the one that is not at most the other is above it
 pub not-le : (x y : Float) → T (plain x) → T (plain y) → le x y ≡ false → T (lt y x)
@@ -129,7 +129,7 @@ zero-phase e = record { plain-is = tt; strict = none (up e) (down e) (down-pos e
 
 -- a phase that passes the test, and one with no sign that sums to the same
 plain-phase : (p inc : Float) → phaseOk p ≡ true → Step inc → (q : Float) × Phase q × (p ⊕ inc ≡ q ⊕ inc)
-plain-phase p inc h i = let t = both-true (le (nearest 0 1) p) (lt p (nearest 1 1)) h in go (phase-or p (hold _ (t .0)) (hold _ (t .1)))
+plain-phase p inc h i = let t = both-true (le (quotient 0 1) p) (lt p (quotient 1 1)) h in go (phase-or p (hold _ (t .0)) (hold _ (t .1)))
   where
     go : Phase p ⊎ ((e : ℤ) × (p ≡ fin true 0 e)) → (q : Float) × Phase q × (p ⊕ inc ≡ q ⊕ inc)
     go (inl P) = (p, P, refl)
@@ -143,12 +143,12 @@ pub sum-ok : (p inc : Float) → phaseOk p ≡ true → Step inc → Within 1677
 sum-ok p inc h i = widen 1048577 16777216 (p ⊕ inc) (lit≤ tt) (sum-up-to p inc h i)
 
 -- LAW: a phase and a step of at most 31/32 sum to less than 2
-pub sum-under-two : (p inc : Float) → phaseOk p ≡ true → Step inc → le inc (nearest 31 32) ≡ true → T (lt (p ⊕ inc) (fin false 1 (pos 1)))
+pub sum-under-two : (p inc : Float) → phaseOk p ≡ true → Step inc → le inc (quotient 31 32) ≡ true → T (lt (p ⊕ inc) (fin false 1 (pos 1)))
 unfolding round
 sum-under-two p inc h i l =
     let q = plain-phase p inc h i in
     let x = q .0 ⊕ inc in
-    let I : Within 31 32 inc = record { plain-is = i .plain-is; upper = le→cross inc (nearest 31 32) (i .plain-is) tt (hold _ l) } in
+    let I : Within 31 32 inc = record { plain-is = i .plain-is; upper = le→cross inc (quotient 31 32) (i .plain-is) tt (hold _ l) } in
     let W : Within 63 32 x = add-within binary32 (q .0) inc 1 1 31 32 63 32 (lit< tt) (lit< tt) (lit< tt) (refl, refl) (record { plain-is = q .1 .plain-is; upper = le-of-lt (q .1 .strict) }) I (lit≤ tt) in
     subst (λ (z : Float). T (lt z (fin false 1 (pos 1)))) (sym (q .2)) (cross→lt x (fin false 1 (pos 1)) (W .plain-is) tt (under (num x) (den x) (den-pos x) (W .upper)))
   where
@@ -165,7 +165,7 @@ advance-ok p inc h i =
 pub phase-passes : (p : Float) → Phase p → phaseOk p ≡ true
 unfolding round
 phase-passes p P =
-    rw (so (le (nearest 0 1) p) (cross→le (nearest 0 1) p tt (P .plain-is) (none (den p) (num p * 1))), so (lt p (nearest 1 1)) (cross→lt p (nearest 1 1) (P .plain-is) tt (P .strict)))
+    rw (so (le (quotient 0 1) p) (cross→le (quotient 0 1) p tt (P .plain-is) (none (den p) (num p * 1))), so (lt p (quotient 1 1)) (cross→lt p (quotient 1 1) (P .plain-is) tt (P .strict)))
   where
     none : (a b : ℕ) → 0 * a ≤ b
     none a b = rw zero-mul (omega arith)
@@ -235,8 +235,8 @@ from-zero hi e (inr z) =
 -- LAW: a stretch between two that pass the test, -0 among them, is from 0 to 8 after rounding
 pub stretch-ok-within : (lo hi t : Float) → T (fits binary32 lo) → stretchOk lo ≡ true → stretchOk hi ≡ true → Within 1 1 t → Within 8 1 (lerp lo hi t)
 stretch-ok-within lo hi t F l h S =
-    let a = both-true (le (nearest 0 1) lo) (le lo (nearest 4 1)) l in
-    let b = both-true (le (nearest 0 1) hi) (le hi (nearest 4 1)) h in
+    let a = both-true (le (quotient 0 1) lo) (le lo (quotient 4 1)) l in
+    let b = both-true (le (quotient 0 1) hi) (le hi (quotient 4 1)) h in
     go (stretch-or lo (hold _ (a .0)) (hold _ (a .1))) (stretch-or hi (hold _ (b .0)) (hold _ (b .1)))
   where
     go : Within 4 1 lo ⊎ ((e : ℤ) × (lo ≡ fin true 0 e)) → Within 4 1 hi ⊎ ((e : ℤ) × (hi ≡ fin true 0 e)) → Within 8 1 (lerp lo hi t)

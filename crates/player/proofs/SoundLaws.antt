@@ -14,7 +14,7 @@ use borrow.Author.Tests.{ltb-true, not-true}
 use Rattle.float.specs.inner.Range.{Within}
 use Rattle.float.proofs.Within.{le→cross}
 use Rattle.float.proofs.Fraction.{not-lt}
-use Rattle.float.specs.F32.{_⊗_, nearest}
+use Rattle.float.specs.F32.{_⊗_, quotient}
 use Rattle.voice.specs.Lists.{upTo, every}
 use Rattle.player.specs.Phase.{inverseOf}
 use Rattle.voice.specs.Input.{partOf, frequencyOf, frequencyOk, frequenciesOk, cleaned}
@@ -36,7 +36,7 @@ use Rattle.filters.proofs.Tests.{rate-is}
 -- ---- one sample
 -- what `constants_of` hands over is the voice's
 abbrev pub ConstantsOf : Voice → Constants → Type 0
-ConstantsOf v x = (x .blend ≡ v .set .blend) × (x .k ≡ v .set .k) × (x .m ≡ v .set .m) × (x .inv ≡ inverseOf (v .set .«sample_rate»)) × (x .nyquist ≡ v .set .«sample_rate» ⊗ nearest 1 2)
+ConstantsOf v x = (x .blend ≡ v .set .blend) × (x .k ≡ v .set .k) × (x .m ≡ v .set .m) × (x .inv ≡ inverseOf (v .set .«sample_rate»)) × (x .nyquist ≡ v .set .«sample_rate» ⊗ quotient 1 2)
 
 -- ---- a channel
 module _ (v : Voice) (freq : ℕ → Float) (g : ℕ → List Float) where
@@ -49,7 +49,7 @@ module _ (v : Voice) (freq : ℕ → Float) (g : ℕ → List Float) where
   unfolding stateAt moved
   still n C = rw C (sym (steps-same (v .state) n))
 
-  pub silent : (n : ℕ) → eqb (v .set .count) 0 ≡ true → upTo (λ i. nearest 0 1) n ≡ channelOut v freq g n
+  pub silent : (n : ℕ) → eqb (v .set .count) 0 ≡ true → upTo (λ i. quotient 0 1) n ≡ channelOut v freq g n
   unfolding channelOut sound
   silent n C = rw C
 
@@ -75,10 +75,10 @@ unfolding cleaned round lt
 cleaned-within nan h = record { plain-is = tt; upper = lit≤ tt }
 cleaned-within (inf s) h = record { plain-is = tt; upper = lit≤ tt }
 cleaned-within (fin true m e) h = record { plain-is = tt; upper = lit≤ tt }
-cleaned-within (fin false m e) h = go (lt (nearest 0 1) (fin false m e))
+cleaned-within (fin false m e) h = go (lt (quotient 0 1) (fin false m e))
   where
-    go : (b : Bool) → Within 20000 1 (cond b (fin false m e) (nearest 0 1))
-    go true = record { plain-is = tt; upper = le→cross (fin false m e) (nearest 20000 1) tt tt (not-lt (nearest 20000 1) (fin false m e) tt tt (not-true (lt (nearest 20000 1) (fin false m e)) h)) }
+    go : (b : Bool) → Within 20000 1 (cond b (fin false m e) (quotient 0 1))
+    go true = record { plain-is = tt; upper = le→cross (fin false m e) (quotient 20000 1) tt tt (not-lt (quotient 20000 1) (fin false m e) tt tt (not-true (lt (quotient 20000 1) (fin false m e)) h)) }
     go false = record { plain-is = tt; upper = lit≤ tt }
 
 -- what a voice that keeps the rules has, as playing needs it
@@ -89,7 +89,7 @@ voice-fits v h =
     let k = kept v h in
     let sizes = counts-are (s .count) (s .m) (s .j) (s .k) (s .«live_count») (k .counts) in
     let e = both-true (every (λ i. pitchOk (getD (pitches v) i nan)) (s .count)) (pitchesAscend (pitches v) (s .count) && every (λ i. stretchOk (getD (stretches v) i nan)) (s .count)) (k .entries) in
-    let r = both-true (le (nearest 8000 1) (s .«sample_rate»)) (le (s .«sample_rate») (nearest 192000 1)) (k .rate) in
+    let r = both-true (le (quotient 8000 1) (s .«sample_rate»)) (le (s .«sample_rate») (quotient 192000 1)) (k .rate) in
     let l = both-true (every (λ i. ltb (getD (s .live) i 0) (s .j)) (s .«live_count»)) (bandsAscend (s .live) (s .«live_count»)) (k .live) in
     record {
       entries = record {
@@ -107,14 +107,14 @@ voice-fits v h =
     }
 
 -- what a channel reads is as question 16 found it
-default-ok : frequencyOk (nearest 220 1) ≡ true
+default-ok : frequencyOk (quotient 220 1) ≡ true
 unfolding round lt
 default-ok = refl
 
 -- an element of a part is one of the list, or what stands past the end
 part-ok : (s : List Float) (a n i : ℕ) → ((j : ℕ) → j < length s → frequencyOk (getD s j nan) ≡ true) → frequencyOk (frequencyOf (take n (drop a s)) i) ≡ true
 part-ok s a n i h =
-    let d = nearest 220 1 in
+    let d = quotient 220 1 in
     ⊎-elim (λ (q : n ≤ i). let m : length (take n (drop a s)) ≤ i = rw length-take (omega arith) in rw (List·getD-eq-default (take n (drop a s)) d m) default-ok)
     (λ (q : i < n).
     ⊎-elim (λ (p : length s ≤ a + i). rw (getD-take n (drop a s) i d q, getD-drop a s i d, List·getD-eq-default s d p) default-ok)

@@ -5,7 +5,7 @@ use mathlib.Core.List.{List}
 use lib.ListN.{getD}
 use lib.Ieee.{Float, nan, le}
 use Rattle.float.specs.Lerp.{lerp}
-use Rattle.float.specs.F32.{nearest}
+use Rattle.float.specs.F32.{quotient}
 use Rattle.player.specs.Share.{shareOf}
 use Rattle.player.specs.declared.pitch.bracket.Bracket.{Bracket}
 use Rattle.player.specs.declared.pitch.bracket.Sides.{Sides}
@@ -29,7 +29,7 @@ bracketOf pitches n f0 =
 
 -- one entry stands on both sides with t = 0
 abbrev pub sidesOf : Bracket → Sides
-sidesOf (Bracket.One i) = record { lo = i; hi = i; t = nearest 0 1 }
+sidesOf (Bracket.One i) = record { lo = i; hi = i; t = quotient 0 1 }
 sidesOf (Bracket.Between lo hi t) = record { lo = lo; hi = hi; t = t }
 
 -- both sides are entries
@@ -38,5 +38,5 @@ pub record SidesIn (n : ℕ) (s : Sides) : Type 0 where
   pub high : s .hi < n
 
 -- a value between those of the two sides
-abbrev pub between : List Float → Sides → Float
-between l s = lerp (getD l (s .lo) nan) (getD l (s .hi) nan) (s .t)
+abbrev pub valueBetween : List Float → Sides → Float
+valueBetween l s = lerp (getD l (s .lo) nan) (getD l (s .hi) nan) (s .t)

@@ -4,7 +4,7 @@ ghost use mathlib.Core.Path.{_≡_};
 ghost use mathlib.Core.Bool.{true};
 ghost use Prim.Native.Nat.{_≤_};
 ghost use lib.ListN.{length};
-ghost use Rattle.float.specs.F32.{nearest};
+ghost use Rattle.float.specs.F32.{quotient};
 ghost use Rattle.voice.specs.Lists.{upTo};
 ghost use Rattle.voice.specs.Input.{frequencyOf, gainsOf};
 ghost use Rattle.voice.specs.Voice.{voiceOf, stateOf, phasesOk};
@@ -16,7 +16,7 @@ use filters::Rng;
 use voice::Setting;
 
 fn silence(out: &mut [f32])
-    ensures { λ r. ⌜ now (out .exit) ≡ upTo (λ i. nearest 0 1) (length (now (out .entry))) ⌝ }
+    ensures { λ r. ⌜ now (out .exit) ≡ upTo (λ i. quotient 0 1) (length (now (out .entry))) ⌝ }
 {
     let mut i = 0;
     while i < out.len() {

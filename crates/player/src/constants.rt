@@ -1,6 +1,6 @@
 // What stays the same through a channel: which partials sound, and by what rate.
 ghost use mathlib.Core.Path.{_≡_};
-ghost use Rattle.float.specs.F32.{_⊗_, nearest};
+ghost use Rattle.float.specs.F32.{_⊗_, quotient};
 ghost use Rattle.player.specs.Phase.{inverseOf};
 
 pub struct Constants {
@@ -12,7 +12,7 @@ pub struct Constants {
 }
 
 pub fn constants_of(blend: u32, k: usize, m: usize, rate: f32) -> Constants
-    ensures { λ r. ⌜ (r .blend ≡ blend) × (r .k ≡ k) × (r .m ≡ m) × (r .inv ≡ inverseOf rate) × (r .nyquist ≡ rate ⊗ nearest 1 2) ⌝ }
+    ensures { λ r. ⌜ (r .blend ≡ blend) × (r .k ≡ k) × (r .m ≡ m) × (r .inv ≡ inverseOf rate) × (r .nyquist ≡ rate ⊗ quotient 1 2) ⌝ }
 {
     Constants {
         blend,

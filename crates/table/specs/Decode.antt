@@ -8,13 +8,13 @@ use Rattle.table.specs.Table.{CoeffTable, PitchEntry}
 use Rattle.table.specs.Image.{header, entries}
 use Rattle.table.specs.Span.{askSpans}
 
-abbrev pub size : Parser ℕ
-size s at = ok (length s) at
+abbrev pub imageLength : Parser ℕ
+imageLength s at = ok (length s) at
 
 -- question 1: is the image at most 65,536 bytes?
 abbrev pub table : Parser CoeffTable
 table = do
-  z ← size
+  z ← imageLength
   require (leb z 65536) (refusal 1 0 0)
   h ← header
   es ← entries (h .count)

@@ -6,7 +6,7 @@ use lib.ListN.{length, getD, take, drop}
 use lib.Dec.{leb, eqb}
 use lib.Ieee.{Float, nan, lt}
 use lib.Ieee.Scale.{finite}
-use Rattle.float.specs.F32.{nearest}
+use Rattle.float.specs.F32.{quotient}
 use Rattle.voice.specs.Lists.{every}
 use Rattle.voice.specs.Limits.{maxChannels, maxHz}
 use Rattle.voice.specs.declared.shape.Shape.{Shape}
@@ -30,10 +30,10 @@ partOf k s n ch = cond (eqb k 0) [] (take n (drop ((ch % k) * n) s))
 
 -- what is read at sample i of a part; unconnected, the frequency is 220, gain 0 is 1, the others 0
 abbrev pub frequencyOf : List Float → ℕ → Float
-frequencyOf part i = getD part i (nearest 220 1)
+frequencyOf part i = getD part i (quotient 220 1)
 
 abbrev pub gainsOf : List Float → List Float → List Float → List Float → ℕ → List Float
-gainsOf g0 g1 g2 g3 i = getD g0 i (nearest 1 1) ∷ getD g1 i (nearest 0 1) ∷ getD g2 i (nearest 0 1) ∷ getD g3 i (nearest 0 1) ∷ []
+gainsOf g0 g1 g2 g3 i = getD g0 i (quotient 1 1) ∷ getD g1 i (quotient 0 1) ∷ getD g2 i (quotient 0 1) ∷ getD g3 i (quotient 0 1) ∷ []
 
 -- what output channel ch reads at sample i
 abbrev pub frequencyAt : Call → ℕ → ℕ → Float
@@ -61,11 +61,11 @@ inputsOk c = inputsOf (c .shape) (length (c .freq)) (length (c .g0)) (length (c 
 
 -- question 16: is every finite frequency of a connected input at most 20,000? (All of the slice is asked.)
 abbrev pub frequencyOk : Float → Bool
-frequencyOk f = cond (finite f) (not (lt (nearest maxHz 1) f)) true
+frequencyOk f = cond (finite f) (not (lt (quotient maxHz 1) f)) true
 
 abbrev pub frequenciesOk : ℕ → List Float → Bool
 frequenciesOk k s = eqb k 0 || every (λ i. frequencyOk (getD s i nan)) (length s)
 
 -- the frequency that is played: one that is not finite, negative or -0 becomes 0
 unfoldable pub cleaned : Float → Float
-cleaned f = cond (finite f) (cond (lt (nearest 0 1) f) f (nearest 0 1)) (nearest 0 1)
+cleaned f = cond (finite f) (cond (lt (quotient 0 1) f) f (quotient 0 1)) (quotient 0 1)

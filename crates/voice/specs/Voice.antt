@@ -5,7 +5,7 @@ use mathlib.Core.Bool.{Bool, _&&_}
 use lib.ListN.{getD, set, replicate}
 use lib.Dec.{leb, ltb}
 use lib.Ieee.{Float, nan, le, lt}
-use Rattle.float.specs.F32.{nearest}
+use Rattle.float.specs.F32.{quotient}
 use Rattle.voice.specs.Lists.{every, upTo}
 use Rattle.voice.specs.Limits.{maxEntries, maxPartials, maxBands, maxBlended, maxHz, listPlaces, memoryPlaces}
 pub use Rattle.filters.specs.Rate.{rateOk}
@@ -76,14 +76,14 @@ withMemory ms b s = set (set ms (b * 2) (s .z1)) (b * 2 + 1) (s .z2)
 -- ---- the voice rules
 -- a phase is at least 0 and below 1
 abbrev pub phaseOk : Float → Bool
-phaseOk p = le (nearest 0 1) p && lt p (nearest 1 1)
+phaseOk p = le (quotient 0 1) p && lt p (quotient 1 1)
 
 -- a pitch is finite, above 0 and at most 20,000; a stretch is 0 to 4 (a NaN fails every test)
 abbrev pub pitchOk : Float → Bool
-pitchOk f = lt (nearest 0 1) f && le f (nearest maxHz 1)
+pitchOk f = lt (quotient 0 1) f && le f (quotient maxHz 1)
 
 abbrev pub stretchOk : Float → Bool
-stretchOk s = le (nearest 0 1) s && le s (nearest 4 1)
+stretchOk s = le (quotient 0 1) s && le s (quotient 4 1)
 
 -- ascending, equal ones allowed: of the first n
 abbrev pub pitchesAscend : List Float → ℕ → Bool
@@ -135,7 +135,7 @@ withState v s = voiceOf (v .set) (v .lists) (v .partials) (v .noise) s
 
 -- the running state at first and after a reset: all 0, and the default seed's noise number
 abbrev pub noMemories : List Float
-noMemories = replicate memoryPlaces (nearest 0 1)
+noMemories = replicate memoryPlaces (quotient 0 1)
 
 abbrev pub firstState : State
-firstState = stateOf (replicate maxPartials (nearest 0 1)) noMemories (newRng defaultSeed)
+firstState = stateOf (replicate maxPartials (quotient 0 1)) noMemories (newRng defaultSeed)

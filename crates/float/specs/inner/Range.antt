@@ -12,7 +12,7 @@ pub record Within (a c : ℕ) (x : Float) : Type 0 where
   pub upper : num x * c ≤ a * den x
 
 -- finite, with no sign, and below a / c
-pub record Below (a c : ℕ) (x : Float) : Type 0 where
+pub record StrictlyWithin (a c : ℕ) (x : Float) : Type 0 where
   pub plain-is : T (plain x)
   pub strict : num x * c < a * den x
 

@@ -4,7 +4,7 @@ use mathlib.Core.List.{List, _++_, map}
 use mathlib.Core.Option.{Option, some, none}
 use lib.Ieee.{Float}
 use Rattle.table.specs.Table.{PitchEntry}
-use Rattle.float.specs.F32.{nearest}
+use Rattle.float.specs.F32.{quotient}
 use Rattle.voice.specs.Lists.{padded}
 use Rattle.voice.specs.Limits.{maxEntries, maxBands}
 use Rattle.filters.specs.Biquad.{noiseBand}
@@ -17,17 +17,17 @@ use Rattle.making.specs.declared.init.Bands.{Bands}
 -- what each sorted entry has one of
 abbrev pub columnsOf : List PitchEntry → Columns
 columnsOf vs = record {
-  «f0_hz» = padded maxEntries (nearest 0 1) (map (λ e. f32 (e .f0Hz)) vs);
-  stretch = padded maxEntries (nearest 0 1) (map (λ e. f32 (e .stretch)) vs);
-  «mainlobe_gain» = padded maxEntries (nearest 0 1) (map (gainOf mainlobeKey) vs);
-  «noise_gain» = padded maxEntries (nearest 0 1) (map (gainOf noiseGainKey) vs);
+  «f0_hz» = padded maxEntries (quotient 0 1) (map (λ e. f32 (e .f0Hz)) vs);
+  stretch = padded maxEntries (quotient 0 1) (map (λ e. f32 (e .stretch)) vs);
+  «mainlobe_gain» = padded maxEntries (quotient 0 1) (map (gainOf mainlobeKey) vs);
+  «noise_gain» = padded maxEntries (quotient 0 1) (map (gainOf noiseGainKey) vs);
 }
 
 -- what each band has one of
 abbrev pub bandsFrom : List Float → Float → Bands
 bandsFrom centres rate = record {
   coeffs = padded maxBands zeroCoeffs (map (λ c. noiseBand c rate) centres);
-  compensation = padded maxBands (nearest 0 1) (map (λ c. bandCompensation c rate) centres);
+  compensation = padded maxBands (quotient 0 1) (map (λ c. bandCompensation c rate) centres);
 }
 
 -- both laid one after the other, as a voice has them

@@ -6,7 +6,7 @@ use mathlib.Core.Bool.{true, cond}
 use lib.IntN.{pos}
 use lib.ListN.{getD}
 use lib.Ieee.{Float, nan, fin, ne}
-use Rattle.float.specs.F32.{_⊕_, _⊗_, nearest}
+use Rattle.float.specs.F32.{_⊕_, _⊗_, quotient}
 use Rattle.filters.specs.Biquad.{tickOf}
 use Rattle.voice.specs.Lists.{steps}
 use Rattle.voice.specs.Voice.{bandAt, memoryAt, withMemory}
@@ -49,14 +49,14 @@ pub record Ticked (ys w1 w2 z1 z2 cs : List Float) (x : Float) (n : ℕ) : Type 
 
 -- ---- what a partial or a live band adds to the sample: x where its coefficient c is not 0
 abbrev pub added : Float → Float → Float → Float
-added y c x = cond (ne c (nearest 0 1)) (y ⊕ x) y
+added y c x = cond (ne c (quotient 0 1)) (y ⊕ x) y
 
 -- the same as a number to add. Where the coefficient is 0 that is -0, which changes no float that it is added to.
 abbrev pub minusZero : Float
 minusZero = fin true 0 (pos 0)
 
 abbrev pub audible : Float → Float → Float
-audible c x = cond (ne c (nearest 0 1)) x minusZero
+audible c x = cond (ne c (quotient 0 1)) x minusZero
 
 -- what a live band adds
 unfoldable pub bandTerm : Float → Float → Float → Float → Float → Float

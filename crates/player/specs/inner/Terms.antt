@@ -6,7 +6,7 @@ use lib.ListN.{getD}
 use lib.Dec.{eqb}
 use lib.Ieee.{Float, nan}
 use Rattle.float.specs.Sqrt.{sqrt}
-use Rattle.float.specs.F32.{_⊗_, nearest}
+use Rattle.float.specs.F32.{_⊗_, quotient}
 use Rattle.player.specs.inner.Columns.{added}
 use Rattle.player.specs.Fade.{nyquistFade}
 use Rattle.player.specs.Phase.{advanceOf, partialFreq, stepOf}
@@ -17,7 +17,7 @@ use Rattle.player.specs.declared.pitch.kept.Pitch.{Pitch}
 -- A single voice and a blend of k channels sound by one formula: a coefficient, a gain and the rest.
 -- The gain: of a single voice gain 0; of a blend 1, since the gains are in its coefficients. A product with 1 is the float itself.
 abbrev pub termGain : ℕ → List Float → Float
-termGain blend gains = cond (eqb blend 0) (getD gains 0 nan) (nearest 1 1)
+termGain blend gains = cond (eqb blend 0) (getD gains 0 nan) (quotient 1 1)
 
 -- the coefficient of a partial, and of a band, of which channel q's is `row q`
 abbrev pub sampleCoeff : ℕ → ℕ → (ℕ → Float) → List Float → Float

@@ -3,7 +3,7 @@ ghost use mathlib.Core.Path.{_≡_};
 ghost use mathlib.Core.Bool.{true};
 ghost use Prim.Native.Nat.{_≤_, _<_, _+_};
 ghost use Rattle.float.specs.inner.Range.{Within};
-ghost use Rattle.float.specs.F32.{nearest};
+ghost use Rattle.float.specs.F32.{quotient};
 ghost use Rattle.voice.specs.Lists.{mapTo, steps};
 ghost use Rattle.wave_table.specs.Wave.{Table};
 ghost use Rattle.player.specs.Fade.{nyquistFade};
@@ -98,7 +98,7 @@ pub fn sample_of<'a>(
         × (phasesOk (now phases) (v .m) ≡ true) ⌝ }
     requires { ⌜ Within maxHz 1 (p .f0) × Within 8 1 (p .stretch) × Within 1 4096 (v .inv) ⌝ }
     ensures { λ r. ⌜ r ≡ steps
-        (λ i y. sampleAdded v p (now (partials .entry)) (now (gains .entry)) (now (phases .entry)) i y) (nearest 0 1) (v .m) ⌝ }
+        (λ i y. sampleAdded v p (now (partials .entry)) (now (gains .entry)) (now (phases .entry)) i y) (quotient 0 1) (v .m) ⌝ }
     ensures { λ r. ⌜ now (phases .exit) ≡ mapTo (λ i ph. advanceOf ph (stepOf (i + 1) (p .f0) (p .stretch) (v .inv))) 0 (v .m)
         (now (phases .entry)) ⌝ }
 {

@@ -3,7 +3,7 @@ ghost use mathlib.Core.Path.{_≡_};
 ghost use Prim.Native.Nat.{_≤_, _<_, _+_, _*_};
 ghost use lib.ListN.{length, getD};
 ghost use lib.Ieee.{nan};
-ghost use Rattle.float.specs.F32.{_⊕_, _⊗_, nearest};
+ghost use Rattle.float.specs.F32.{_⊕_, _⊗_, quotient};
 ghost use Rattle.voice.specs.Lists.{steps};
 ghost use Rattle.player.specs.Sound.{blendCoeff};
 ghost use Rattle.player.specs.inner.Columns.{audible, Filled};
@@ -89,7 +89,7 @@ pub fn partial_sum<'a>(
     requires { ⌜ (k ≤ maxBlended) × (m ≤ maxPartials) ⌝ }
     ensures { λ r. ⌜ r ≡ steps
         (λ i y. partialAdded blend k (now (rows .entry)) mainlobe (now (fades .entry)) (now (gains .entry)) (now (sines .entry)) i y)
-        (nearest 0 1) m ⌝ }
+        (quotient 0 1) m ⌝ }
 {
     let gain = term_gain(blend, gains);
     if blend == 0 {

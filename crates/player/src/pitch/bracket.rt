@@ -9,7 +9,7 @@ ghost use Rattle.float.specs.inner.Range.{Within};
 ghost use Rattle.voice.specs.Lists.{every};
 ghost use Rattle.player.specs.Share.{shareOf};
 ghost use Rattle.voice.specs.Voice.{pitchOk};
-ghost use Rattle.player.specs.Bracket.{notAbove, bracketOf, sidesOf, SidesIn, between};
+ghost use Rattle.player.specs.Bracket.{notAbove, bracketOf, sidesOf, SidesIn, valueBetween};
 ghost use Rattle.voice.specs.Limits.{maxEntries, maxHz};
 
 // One entry by its index, or two neighbours with the share between them.
@@ -94,7 +94,7 @@ pub fn sides_at(f0_hz: &[f32; 16], count: usize, f0: f32) -> Sides
 // A value between those of the two sides.
 pub fn value_between(l: &[f32; 16], s: Sides) -> f32
     requires { ⌜ SidesIn maxEntries s ⌝ }
-    ensures { λ r. ⌜ r ≡ between (now (l .entry)) s ⌝ }
+    ensures { λ r. ⌜ r ≡ valueBetween (now (l .entry)) s ⌝ }
 {
     let lo = s.lo;
     let hi = s.hi;

@@ -8,7 +8,7 @@ ghost use Rattle.float.specs.inner.Range.{Within};
 ghost use Rattle.voice.specs.Lists.{every};
 ghost use Rattle.voice.specs.Voice.{pitchOk, stretchOk};
 ghost use Rattle.player.specs.inner.Tuning.{PitchAt};
-ghost use Rattle.player.specs.Bracket.{bracketOf, sidesOf, SidesIn, between};
+ghost use Rattle.player.specs.Bracket.{bracketOf, sidesOf, SidesIn, valueBetween};
 ghost use Rattle.voice.specs.Limits.{maxEntries, maxHz};
 use crate::pitch::bracket::Sides;
 use crate::pitch::bracket::sides_at;
@@ -31,8 +31,8 @@ pub fn pitch_at(
 ) -> Pitch
     requires { ⌜ (1 ≤ count) × (count ≤ maxEntries) × (every (λ i. pitchOk (getD (now «f0_hz») i nan)) count ≡ true) ×
         (every (λ i. stretchOk (getD (now stretch) i nan)) count ≡ true) × Within maxHz 1 f0 ⌝ }
-    ensures { λ r. ⌜ (r .f0 ≡ f0) × (r .s ≡ sidesOf (bracketOf (now («f0_hz» .entry)) count f0)) × (r .stretch ≡ between
-        (now (stretch .entry)) (r .s)) × (r .mainlobe ≡ between (now («mainlobe_gain» .entry)) (r .s)) ⌝ }
+    ensures { λ r. ⌜ (r .f0 ≡ f0) × (r .s ≡ sidesOf (bracketOf (now («f0_hz» .entry)) count f0)) × (r .stretch ≡ valueBetween
+        (now (stretch .entry)) (r .s)) × (r .mainlobe ≡ valueBetween (now («mainlobe_gain» .entry)) (r .s)) ⌝ }
     ensures { λ r. ⌜ SidesIn maxEntries (r .s) × Within 8 1 (r .stretch) ⌝ }
 {
     let s = sides_at(f0_hz, count, f0);

@@ -5,7 +5,7 @@ ghost use lib.ListN.{getD};
 ghost use lib.Ieee.{nan};
 ghost use Rattle.float.specs.Lerp.{lerp};
 ghost use Rattle.float.specs.inner.Range.{Within};
-ghost use Rattle.player.specs.Bracket.{SidesIn, between};
+ghost use Rattle.player.specs.Bracket.{SidesIn, valueBetween};
 ghost use Rattle.voice.specs.Voice.{stretchOk};
 ghost use Rattle.voice.specs.Limits.{maxEntries};
 use crate::pitch::bracket::Sides;
@@ -20,7 +20,7 @@ fn stretch_of(lo: f32, hi: f32, t: f32) -> f32
 pub fn stretch_between(l: &[f32; 16], s: Sides) -> f32
     requires { ⌜ SidesIn maxEntries s × (stretchOk (getD (now l) (s .lo) nan) ≡ true)
         × (stretchOk (getD (now l) (s .hi) nan) ≡ true) × Within 1 1 (s .t) ⌝ }
-    ensures { λ r. ⌜ (r ≡ between (now (l .entry)) s) × Within 8 1 r ⌝ }
+    ensures { λ r. ⌜ (r ≡ valueBetween (now (l .entry)) s) × Within 8 1 r ⌝ }
 {
     let lo = s.lo;
     let hi = s.hi;

@@ -2,7 +2,7 @@
 use mathlib.Core.Path.{_≡_, _∙_}
 use lib.Ieee.{binary32, ofBits, round}
 use lib.Ieee.Fits.{div-fits, add-fits}
-use Rattle.float.specs.F32.{nearest}
+use Rattle.float.specs.F32.{quotient}
 use Rattle.filters.specs.Wave.{sineOf}
 use Rattle.filters.specs.Biquad.{turn, turnQuarter, paramsOf}
 use Rattle.filters.proofs.SineLaws.{sine-in}
@@ -26,7 +26,7 @@ cos-is : (c : tie.After-sine2) → c .sine2 .result ≡ sineOf (turnQuarter (c .
 unfolding ofBits round
 cos-is c =
     let s = c .before .before in
-    c .sine2 .ensures ∙ sine-in (s .args .t .now) (s .pre .0) _ (add-fits binary32 (turn (s .args .freq) (s .args .sample-rate)) (nearest 1 4)) (s .pre .1 .1)
+    c .sine2 .ensures ∙ sine-in (s .args .t .now) (s .pre .0) _ (add-fits binary32 (turn (s .args .freq) (s .args .sample-rate)) (quotient 1 4)) (s .pre .1 .1)
 
 returns : tie.Need-returns
 unfolding ofBits round paramsOf

@@ -4,7 +4,7 @@ use mathlib.Core.Path.{_≡_, refl, ap, _∙_}
 use Prim.Native.Nat.{_-_, _≤_, _<_}
 use native.Mathlib.Omega.{arith}
 use lib.Ieee.{ofBits, round}
-use Rattle.float.specs.F32.{_⊕_, nearest}
+use Rattle.float.specs.F32.{_⊕_, quotient}
 use Rattle.filters.proofs.RingLaws.{quiet-output, quiet-memory, quiet-power}
 use Rattle.filters.specs.Biquad.{cleared, tickOf}
 use Rattle.filters.specs.Compensation.{rungState, rungOutput, rungPower}
@@ -13,7 +13,7 @@ use Rattle.filters.proofs.compensation.ring_quiet.Statement.{statement}
 use Rattle.filters.proofs.compensation.ring_quiet.Tie as tie
 
 abbrev Inv-loop : tie.InvT-loop
-Inv-loop c n first power₀ y₀ z2₀ rung₀ power y z2 rung = (0 < rung) × (rung ≤ n) × (power ≡ rungPower c rung) × (y ≡ rungOutput c rung) × (z2 ≡ rungState c rung .z2 ⊕ nearest 0 1)
+Inv-loop c n first power₀ y₀ z2₀ rung₀ power y z2 rung = (0 < rung) × (rung ≤ n) × (power ≡ rungPower c rung) × (y ≡ rungOutput c rung) × (z2 ≡ rungState c rung .z2 ⊕ quotient 0 1)
 
 abbrev μ-loop : tie.MeasureT-loop
 μ-loop c n first power₀ y₀ z2₀ rung₀ power y z2 rung = n - rung
@@ -29,7 +29,7 @@ unfolding ofBits round rungState rungPower tickOf
 loop-holds c =
     let b = c .before .before .before .before in
     let k = b .before .before .args .c in
-    let t : b .tick .result ≡ tickOf cleared (nearest 1 1) k = b .tick .ensures ∙ ap (λ (s : BiquadState). tickOf s (nearest 1 1) k) (b .before .new .ensures) in
+    let t : b .tick .result ≡ tickOf cleared (quotient 1 1) k = b .tick .ensures ∙ ap (λ (s : BiquadState). tickOf s (quotient 1 1) k) (b .before .new .ensures) in
     (omega arith, omega arith, rw t refl, rw t refl, rw t refl)
 
 add-rung : tie.Need-add-rung Inv-loop μ-loop

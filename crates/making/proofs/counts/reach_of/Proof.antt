@@ -3,14 +3,14 @@ use Prim.Native.Nat.{_≤_}
 use native.Mathlib.Omega.{arith}
 use lib.Ieee.{ofBits, round}
 use Rattle.table.specs.View.{entryAt}
-use Rattle.making.specs.Making.{reach, isNonzero}
+use Rattle.making.specs.Making.{partialReach, isNonzero}
 use Rattle.making.proofs.CoeffLaws.{reach-hit, reach-miss}
 use borrow.Author.Needs.{needs}
 use Rattle.making.proofs.counts.reach_of.Statement.{statement}
 use Rattle.making.proofs.counts.reach_of.Tie as tie
 
 abbrev Inv-loop : tie.InvT-loop
-Inv-loop s v c n i₀ i = (i ≤ n) × (reach (entryAt s v) c i ≡ reach (entryAt s v) c n)
+Inv-loop s v c n i₀ i = (i ≤ n) × (partialReach (entryAt s v) c i ≡ partialReach (entryAt s v) c n)
 
 abbrev μ-loop : tie.MeasureT-loop
 μ-loop s v c n i₀ i = i
@@ -40,7 +40,7 @@ loop-again c =
 
 -- src/counts.rt:47:1
 returns-2 : tie.Need-returns-2 Inv-loop μ-loop
-unfolding reach
+unfolding partialReach
 returns-2 c =
     let b1 = c .before in
     let z : b1 .loop .i ≡ 0 = omega arith in rw z at (b1 .loop .inv .1)

@@ -5,7 +5,7 @@ use mathlib.Core.List.{map}
 use lib.ListN.{length, take}
 use lib.Seq.{take-all}
 use lib.Ieee.{Float, nan, ofBits, round}
-use Rattle.float.specs.F32.{nearest}
+use Rattle.float.specs.F32.{quotient}
 use Rattle.voice.specs.Lists.{padded}
 use Rattle.filters.specs.Biquad.{noiseBand}
 use Rattle.filters.specs.Band.{zeroCoeffs, bandCompensation}
@@ -17,7 +17,7 @@ use Rattle.making.proofs.init.init.Statement.{statement}
 use Rattle.making.proofs.init.init.Tie as tie
 
 abbrev Inv-loop : tie.InvT-loop
-Inv-loop sample-rate centres coeffs₀ compensation₀ i₀ coeffs compensation i = (i ≤ length centres) × (coeffs ≡ padded 16 zeroCoeffs (map (λ c. noiseBand c sample-rate) (take i centres))) × (compensation ≡ padded 16 (nearest 0 1) (map (λ c. bandCompensation c sample-rate) (take i centres)))
+Inv-loop sample-rate centres coeffs₀ compensation₀ i₀ coeffs compensation i = (i ≤ length centres) × (coeffs ≡ padded 16 zeroCoeffs (map (λ c. noiseBand c sample-rate) (take i centres))) × (compensation ≡ padded 16 (quotient 0 1) (map (λ c. bandCompensation c sample-rate) (take i centres)))
 
 abbrev μ-loop : tie.MeasureT-loop
 μ-loop sample-rate centres coeffs₀ compensation₀ i₀ coeffs compensation i = length centres - i
@@ -74,7 +74,7 @@ loop-again c =
     let b1 = c .before in
     let b4 = b1 .before .before .before in
     let b7 = b4 .before .before .before in
-    (omega arith, rw (ap (λ (b : Band). b .coeffs) (b1 .init-band .ensures) ∙ band-coeffs _ _ (b7 .pre .0)) (pad-again (λ (c : Float). noiseBand c (b7 .args .sample-rate)) zeroCoeffs nan 16 (b4 .loop .i) (b7 .args .centres .now) (b4 .loop .coeffs) (omega arith) (omega (arith, b7 .pre .1)) (b4 .loop .inv .1)), rw (ap (λ (b : Band). b .compensation) (b1 .init-band .ensures) ∙ band-compensation _ _ (b7 .pre .0)) (pad-again (λ (c : Float). bandCompensation c (b7 .args .sample-rate)) (nearest 0 1) nan 16 (b4 .loop .i) (b7 .args .centres .now) (b4 .loop .compensation) (omega arith) (omega (arith, b7 .pre .1)) (b4 .loop .inv .2)))
+    (omega arith, rw (ap (λ (b : Band). b .coeffs) (b1 .init-band .ensures) ∙ band-coeffs _ _ (b7 .pre .0)) (pad-again (λ (c : Float). noiseBand c (b7 .args .sample-rate)) zeroCoeffs nan 16 (b4 .loop .i) (b7 .args .centres .now) (b4 .loop .coeffs) (omega arith) (omega (arith, b7 .pre .1)) (b4 .loop .inv .1)), rw (ap (λ (b : Band). b .compensation) (b1 .init-band .ensures) ∙ band-compensation _ _ (b7 .pre .0)) (pad-again (λ (c : Float). bandCompensation c (b7 .args .sample-rate)) (quotient 0 1) nan 16 (b4 .loop .i) (b7 .args .centres .now) (b4 .loop .compensation) (omega arith) (omega (arith, b7 .pre .1)) (b4 .loop .inv .2)))
 
 -- src/init.rt:29:1
 returns : tie.Need-returns Inv-loop μ-loop

@@ -4,7 +4,7 @@ use Prim.Native.Nat.{_-_, _≤_}
 use native.Mathlib.Omega.{arith}
 use lib.ListN.{length, drop, length-set}
 use lib.Ieee.{ofBits, round}
-use Rattle.float.specs.F32.{nearest}
+use Rattle.float.specs.F32.{quotient}
 use Rattle.voice.specs.Lists.{upTo}
 use Rattle.voice.proofs.Loops.{upTo-again, upTo-full}
 -- `silence` meets its contract.
@@ -14,7 +14,7 @@ use Rattle.player.proofs.channel.silence.Tie as tie
 
 abbrev Inv-loop : tie.InvT-loop
 Inv-loop out₀ i₀ out i =
-    (i ≤ length out₀) × (length out ≡ length out₀) × (out ≡ upTo (λ i. nearest 0 1) i ++ drop i out₀)
+    (i ≤ length out₀) × (length out ≡ length out₀) × (out ≡ upTo (λ i. quotient 0 1) i ++ drop i out₀)
 
 abbrev μ-loop : tie.MeasureT-loop
 μ-loop out₀ i₀ out i = length out₀ - i
@@ -41,7 +41,7 @@ unfolding ofBits round
 loop-again c =
     let b1 = c .before in
     let b2 = b1 .before in
-    (omega (arith, c .loop-test .taken, b1 .loop .inv .1), simp length-set (b1 .loop .inv .1), upTo-again (λ i. nearest 0 1) (b1 .loop .i) (b2 .args .out .now) (b1 .loop .out) (omega (arith, c .loop-test .taken, b1 .loop .inv .1)) (b1 .loop .inv .2))
+    (omega (arith, c .loop-test .taken, b1 .loop .inv .1), simp length-set (b1 .loop .inv .1), upTo-again (λ i. quotient 0 1) (b1 .loop .i) (b2 .args .out .now) (b1 .loop .out) (omega (arith, c .loop-test .taken, b1 .loop .inv .1)) (b1 .loop .inv .2))
 
 same-length : tie.Need-same-length Inv-loop μ-loop
 same-length c = search needs
@@ -50,7 +50,7 @@ returns : tie.Need-returns Inv-loop μ-loop
 returns c =
     let b1 = c .before in
     let b2 = b1 .before in
-    upTo-full (λ i. nearest 0 1) (b1 .loop .i) (length (b2 .args .out .now)) (b2 .args .out .now) (b1 .loop .out) (omega (arith, c .loop-test .left, b1 .loop .inv .1, b1 .loop .inv .0)) refl (b1 .loop .inv .2)
+    upTo-full (λ i. quotient 0 1) (b1 .loop .i) (length (b2 .args .out .now)) (b2 .args .out .now) (b1 .loop .out) (omega (arith, c .loop-test .left, b1 .loop .inv .1, b1 .loop .inv .0)) refl (b1 .loop .inv .2)
 
 pub silence-spec : {M : Type 1} → statement M
 silence-spec =

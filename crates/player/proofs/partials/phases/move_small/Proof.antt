@@ -11,7 +11,7 @@ use Prim.Native.Nat.{_-_, _≤_}
 use native.Mathlib.Omega.{arith}
 use lib.ListN.{getD}
 use lib.Ieee.{Float, nan, binary32, ofBits}
-use Rattle.float.specs.F32.{_⊕_, nearest}
+use Rattle.float.specs.F32.{_⊕_, quotient}
 use Rattle.voice.specs.Lists.{mapTo}
 use Rattle.player.specs.Phase.{advanceOf}
 use borrow.Author.Needs.{needs}
@@ -63,7 +63,7 @@ loop-again c =
     let inc = getD (b5 .args .incs .now) (b4 .loop .i) nan in
     let P = turn-phase _ (b5 .args .phases .now) (b4 .loop .phases) (b5 .args .m) (b4 .loop .i) (b5 .pre .1) (b3 .loop-test .taken) (b4 .loop .inv .1) in
     let S = b5 .pre .2 .at (b4 .loop .i) (b3 .loop-test .taken) in
-    let L = every-at (λ i. le (getD (b5 .args .incs .now) i nan) (nearest 31 32)) (b5 .args .m) (b4 .loop .i) (b5 .pre .3) (b3 .loop-test .taken) in
+    let L = every-at (λ i. le (getD (b5 .args .incs .now) i nan) (quotient 31 32)) (b5 .args .m) (b4 .loop .i) (b5 .pre .3) (b3 .loop-test .taken) in
     let W = sum-ok p inc P S in
     let e : c .if1 .phases ≡ advanceOf p inc = ⊎-elim (λ w. w .1 ∙ sym (fraction-below (p ⊕ inc) (add-fits binary32 p inc) W (hold _ (w .0 .taken)))) (λ w. w .1 ∙ sym (fraction-over (p ⊕ inc) W (not-lt (p ⊕ inc) one (W .plain-is) tt (w .0 .left)) (sum-under-two p inc P S L))) (c .if1 .came) in
     (omega (arith, b3 .loop-test .taken), ap (λ (z : Float). set (b4 .loop .phases) (b4 .loop .i) z) e ∙ mapTo-again (λ i p. advanceOf p (getD (b5 .args .incs .now) i nan)) nan (b4 .loop .i) (b5 .args .phases .now) (b4 .loop .phases) (b4 .loop .inv .1))

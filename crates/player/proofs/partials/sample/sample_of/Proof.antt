@@ -5,7 +5,7 @@ use Prim.Native.Nat.{_-_, _+_, _≤_}
 use native.Mathlib.Omega.{arith}
 use lib.ListN.{getD}
 use lib.Ieee.{nan, ofBits, round}
-use Rattle.float.specs.F32.{nearest}
+use Rattle.float.specs.F32.{quotient}
 use Rattle.voice.specs.Lists.{steps, mapTo}
 use Rattle.voice.specs.Voice.{phaseOk}
 use Rattle.player.specs.Phase.{Step, advanceOf, stepOf}
@@ -19,7 +19,7 @@ use Rattle.player.proofs.partials.sample.sample_of.Tie as tie
 abbrev Inv-loop : tie.InvT-loop
 Inv-loop phases₀ partials wave gains v p gain y₀ i₀ phases y i =
     (i ≤ v .m) × (phases ≡ mapTo (λ i ph. advanceOf ph (stepOf (i + 1) (p .f0) (p .stretch) (v .inv))) 0 i phases₀)
-    × (y ≡ steps (λ i y. sampleAdded v p partials gains phases₀ i y) (nearest 0 1) i)
+    × (y ≡ steps (λ i y. sampleAdded v p partials gains phases₀ i y) (quotient 0 1) i)
 
 abbrev μ-loop : tie.MeasureT-loop
 μ-loop phases₀ partials wave gains v p gain y₀ i₀ phases y i = v .m - i

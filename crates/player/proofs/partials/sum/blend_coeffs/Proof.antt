@@ -4,7 +4,7 @@ use Prim.Native.Nat.{_+_, _-_, _*_, _≤_}
 use native.Mathlib.Omega.{arith}
 use lib.ListN.{getD}
 use lib.Ieee.{nan, ofBits}
-use Rattle.float.specs.F32.{_⊕_, _⊗_, nearest}
+use Rattle.float.specs.F32.{_⊕_, _⊗_, quotient}
 use Rattle.player.specs.inner.Columns.{Filled}
 use Rattle.voice.specs.Lists.{steps}
 use Rattle.voice.proofs.Loops.{steps-again}
@@ -53,7 +53,7 @@ loop-again c =
     let b4 = c .before .before .before .before in
     let b7 = b4 .before .before .before in (
       omega arith,
-      filled-as _ _ _ (b7 .args .m) (λ i l. steps-again (λ q y. y ⊕ getD (b7 .args .gains .now) q nan ⊗ getD (b7 .args .rows .now) (q * 32 + i) nan) (nearest 0 1) (getD (b4 .loop .coeffs) i nan) (b4 .loop .q) (b4 .loop .inv .1 .at i l)) (c .add-row .ensures),
+      filled-as _ _ _ (b7 .args .m) (λ i l. steps-again (λ q y. y ⊕ getD (b7 .args .gains .now) q nan ⊗ getD (b7 .args .rows .now) (q * 32 + i) nan) (quotient 0 1) (getD (b4 .loop .coeffs) i nan) (b4 .loop .q) (b4 .loop .inv .1 .at i l)) (c .add-row .ensures),
     )
 
 returns : tie.Need-returns Inv-loop μ-loop

@@ -4,7 +4,7 @@ use mathlib.Core.Bool.{false}
 use lib.Ieee.{binary32, ofBits, round}
 use lib.Ieee.Fits.{round-fits}
 use borrow.Author.Tests.{eq-eqb, ne-eqb}
-use Rattle.float.specs.F32.{nearest}
+use Rattle.float.specs.F32.{quotient}
 use Rattle.player.proofs.ColumnLaws.{first-row, sum-is}
 use Rattle.player.proofs.TermLaws.{partial-stored}
 use borrow.Author.Needs.{needs}
@@ -28,7 +28,7 @@ returns c =
     let b6 = b5 .before in
     let a = b6 .before .args in
     c .sum-of .ensures
-    ∙ sum-is (b2 .partial-terms .last .0) _ (nearest 0 1) (a .m) (round-fits binary32 false 0 1)
+    ∙ sum-is (b2 .partial-terms .last .0) _ (quotient 0 1) (a .m) (round-fits binary32 false 0 1)
     (λ i h z f. partial-stored z _ _ _ _ _ _ _ _ f (b2 .partial-terms .ensures .at i h) (rw (eq-eqb _ _ (b5 .if1 .taken)) (sym (first-row (a .rows .now) i))) (b6 .term-gain .ensures))
 
 blend-coeffs-requires : tie.Need-blend-coeffs-requires
@@ -49,7 +49,7 @@ returns-2 c =
     let b9 = b8 .before in
     let a = b9 .before .args in
     c .sum-of2 .ensures
-    ∙ sum-is (b2 .partial-terms2 .last .0) _ (nearest 0 1) (a .m) (round-fits binary32 false 0 1)
+    ∙ sum-is (b2 .partial-terms2 .last .0) _ (quotient 0 1) (a .m) (round-fits binary32 false 0 1)
     (λ i h z f. partial-stored z _ _ _ _ _ _ _ _ f (b2 .partial-terms2 .ensures .at i h) (rw (ne-eqb _ _ (b8 .if1 .left)) (b6 .blend-coeffs .ensures .at i h)) (b9 .term-gain .ensures))
 
 pub partial-sum-spec : {M : Type 1} → statement M
