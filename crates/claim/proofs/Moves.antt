@@ -24,7 +24,7 @@ use Rattle.player.specs.Sound.{unitVariance, noiseIn, sidesAt, stretchAt, moved
 use Rattle.player.specs.Bands.{ticking}
 use Rattle.player.specs.Block.{stateAt, blockEnd}
 use Rattle.voice.specs.Question.{ask, accepted, playQuestion}
-use Rattle.player.specs.Play.{played}
+use Rattle.player.specs.Playing.{played}
 use Rattle.voice.specs.Restart.{resetOf, reseedOf, reseededState}
 use Rattle.making.specs.Making.{f32, voiceEntries, liveBands, freshVoice, Making}
 use Rattle.voice.proofs.MemoryLaws.{length-with}

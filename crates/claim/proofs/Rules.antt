@@ -22,7 +22,7 @@ use Rattle.player.specs.Bands.{allLive, ticking}
 use Rattle.player.specs.Block.{stateAt, blockEnd}
 use Rattle.player.specs.inner.Passes.{EntriesFit}
 use Rattle.voice.specs.Question.{ask, accepted, callQuestion, playQuestion}
-use Rattle.player.specs.Play.{played}
+use Rattle.player.specs.Playing.{played}
 use Rattle.voice.specs.Restart.{resetOf, reseedOf, reseededState}
 use Rattle.voice.specs.declared.voice.State.{State}
 use Rattle.voice.specs.declared.voice.Voice.{Voice}

@@ -11,7 +11,7 @@ use Rattle.voice.specs.Voice.{memoryAt}
 use Rattle.voice.specs.Input.{Call, call, frequencyAt}
 use Rattle.voice.specs.Question.{callQuestion, accepted}
 use Rattle.voice.specs.Restart.{resetOf, reseedOf}
-use Rattle.player.specs.Play.{played}
+use Rattle.player.specs.Playing.{played}
 use Rattle.making.specs.Making.{Making}
 use Rattle.claim.specs.Machine.{Machine, Event, frequency, reset, seed}
 

@@ -5,7 +5,7 @@ use lib.Dec.{eqb}
 use Rattle.wire.specs.Parse.{Refusal}
 use Rattle.table.specs.declared.error.CoeffTableCodecError.{CoeffTableCodecError}
 use Rattle.making.specs.declared.answer.MakeAnswer.{MakeAnswer}
-use Rattle.making.specs.MakeAnswer.{makeRefusal}
+use Rattle.making.specs.Answer.{makeRefusal}
 
 -- the answer with a number and its values
 abbrev answerOf : Refusal → MakeAnswer

@@ -1,3 +1,3 @@
 pub mod Making
-pub mod MakeAnswer
+pub mod Answer
 pub mod inner

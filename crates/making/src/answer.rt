@@ -1,4 +1,4 @@
-// The answers of a making, and questions 10 to 12. The numbers are those of `makeRefusal` in specs/MakeAnswer.antt.
+// The answers of a making, and questions 10 to 12. The numbers are those of `makeRefusal` in specs/Answer.antt.
 ghost use mathlib.Core.Path.{_≡_};
 ghost use Prim.Native.Nat.{ℕ, _≤_};
 ghost use mathlib.Core.List.{List};
@@ -10,7 +10,7 @@ ghost use Rattle.table.specs.Table.{hasChannel};
 ghost use Rattle.table.specs.Desk.{bandCount};
 ghost use Rattle.making.specs.Making.{any, all, sizesOk, channelFound, centresOk, tableQuestion};
 ghost use Rattle.making.specs.inner.Views.{viewed, laterQuestion};
-ghost use Rattle.making.specs.MakeAnswer.{makeRefusal};
+ghost use Rattle.making.specs.Answer.{makeRefusal};
 ghost use Rattle.voice.specs.Limits.{maxEntries};
 use crate::limits::sizes_ok;
 use crate::values::ValuesAnswer;

@@ -8,7 +8,7 @@ ghost use Rattle.table.specs.Desk.{bandCount};
 ghost use Rattle.voice.specs.Voice.{rateOk};
 ghost use Rattle.making.specs.Making.{all, sizesOk, kindNumber, kindChannel, freshVoice, blankVoice, making, makeOf};
 ghost use Rattle.making.specs.inner.Views.{viewed};
-ghost use Rattle.making.specs.MakeAnswer.{makeRefusal, madeOf, tableMade};
+ghost use Rattle.making.specs.Answer.{makeRefusal, madeOf, tableMade};
 ghost use Rattle.voice.specs.Limits.{maxEntries};
 use crate::answer::MakeAnswer;
 use crate::answer::is_done;

@@ -10,7 +10,7 @@ use Rattle.voice.specs.Question.{playQuestion, accepted}
 use Rattle.player.specs.Bands.{ticking}
 use Rattle.player.specs.Block.{blockEnd}
 use Rattle.player.specs.inner.Passes.{BlockPlayed}
-use Rattle.player.specs.Play.{played, playedOut, Plays, PlaysParts}
+use Rattle.player.specs.Playing.{played, playedOut, Plays, PlaysParts}
 use Rattle.filters.specs.declared.rng.Rng.{Rng}
 use Rattle.player.specs.declared.playing.Moved.{Moved}
 use Rattle.voice.specs.declared.answer.Played.{Played}

@@ -5,5 +5,5 @@ pub mod Bracket
 pub mod Sound
 pub mod Block
 pub mod Bands
-pub mod Play
+pub mod Playing
 pub mod inner

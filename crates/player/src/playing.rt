@@ -1,7 +1,7 @@
 // Playing, with questions 13 to 16.
 ghost use Rattle.voice.specs.Input.{call};
 ghost use Rattle.voice.specs.Voice.{voiceOf, stateOf};
-ghost use Rattle.player.specs.Play.{Plays, PlaysParts};
+ghost use Rattle.player.specs.Playing.{Plays, PlaysParts};
 use crate::bands::ticking;
 use crate::block::block_of;
 use filters::Rng;

@@ -25,7 +25,7 @@ use Rattle.voice.specs.declared.voice.State.{State}
 use Rattle.voice.specs.declared.voice.Voice.{Voice}
 use Rattle.player.specs.Bands.{ticking}
 use Rattle.player.specs.Block.{blockEnd}
-use Rattle.player.specs.Play.{played, PlaysParts, PlaysIn}
+use Rattle.player.specs.Playing.{played, PlaysParts, PlaysIn}
 use Rattle.player.specs.declared.playing.Moved.{Moved}
 use Rattle.sounder.specs.declared.answer.Answer.{Answer}
 use Rattle.sounder.specs.Answer.{refusalAnswer, done, kindOf, namePlace}

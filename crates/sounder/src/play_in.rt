@@ -1,7 +1,7 @@
 // Playing a voice where it lies: its lists, phases and memories are lent, and nothing of it is copied but its numbers and the noise
 // number, which tells in short blocks.
 ghost use Rattle.voice.specs.Input.{call};
-ghost use Rattle.player.specs.Play.{PlaysIn};
+ghost use Rattle.player.specs.Playing.{PlaysIn};
 use player::play_parts;
 use voice::Shape;
 use voice::Voice;

@@ -47,7 +47,7 @@ use denote.Exit.{yes}
 use denote.Signature.{Slot, plain}
 use Rattle.voice.specs.Input.{call, Call}
 use Rattle.voice.specs.Voice.{withState, stateOf}
-use Rattle.player.specs.Play.{PlaysParts}
+use Rattle.player.specs.Playing.{PlaysParts}
 use Rattle.voice.specs.declared.voice.Voice.{Voice}
 use Rattle.filters.specs.declared.rng.Rng.{Rng}
 use Rattle.player.specs.declared.playing.Moved.{Moved}

@@ -1,5 +1,5 @@
 use mathlib.Core.Path.{refl, sym, ap, _∙_}
-use Rattle.making.specs.MakeAnswer.{makeRefusal}
+use Rattle.making.specs.Answer.{makeRefusal}
 use Rattle.sounder.specs.Answer.{refusalAnswer}
 use borrow.Author.Needs.{needs}
 use Rattle.sounder.proofs.voices.make_answer.Statement.{statement}

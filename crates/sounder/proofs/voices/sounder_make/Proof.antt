@@ -1,5 +1,5 @@
 use mathlib.Core.Path.{ap}
-use Rattle.sounder.specs.Player.{madeAnswer}
+use Rattle.sounder.specs.Voices.{madeAnswer}
 use borrow.Author.Needs.{needs}
 use Rattle.sounder.proofs.voices.sounder_make.Statement.{statement}
 use Rattle.sounder.proofs.voices.sounder_make.Tie as tie
