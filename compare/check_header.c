@@ -238,6 +238,7 @@ static void check_numbers(void)
     expect(sounder_play_in(v, wide, ones, 8, ones, 24, ones, 32, ones, 40, ones, 48, out, 16) == 0, "another number of channels in each input");
     expect(sounder_play(*v, wide, ones, 8, ones, 24, ones, 32, ones, 40, ones, 48, out, 16).number == 0, "the same by value");
     expect(sounder_reseed(*v, 5).voice.state.noise == 6, "a seed");
+    expect(sounder_reseed_in(v, 7) == 0 && v->state.noise == 8, "a seed in place");
 }
 
 /* two channels of eight samples: the frequency has two channels, gain 1 two, gain 0 and 2 one each, and gain 3 one or none */
@@ -301,10 +302,15 @@ static void check_block(const struct sounder_voice *fresh, const uint32_t *store
     played = sounder_reseed(own, 0);
     expect(played.number == 0 && played.voice.state.noise == 1 && played.voice.state.memories[0].z1 == 0, "a reseed");
     expect(same_floats(played.voice.state.phases, own.state.phases, 32), "it keeps the phases");
+    struct sounder_voice seeded = own;
+    expect(sounder_reseed_in(&seeded, 0) == 0 && same_voice(&seeded, &played.voice), "a reseed in place");
     played = sounder_reset(own);
     expect(played.number == 0 && same_voice(&played.voice, fresh), "a reset");
+    expect(sounder_reset_in(&seeded) == 0 && same_voice(&seeded, fresh), "a reset in place");
     own.count = 17;
+    before = own;
     expect(sounder_reset(own).number == 13 && sounder_reseed(own, 1).number == 13, "a voice that breaks a rule");
+    expect(sounder_reset_in(&own) == 13 && sounder_reseed_in(&own, 1) == 13 && same_voice(&own, &before), "it stays as it is");
 }
 
 static void check_voices(void)

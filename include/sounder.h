@@ -147,15 +147,20 @@ uint32_t sounder_play_in(struct sounder_voice *voice, struct sounder_shape shape
                          size_t g0_len, const float *g1, size_t g1_len, const float *g2, size_t g2_len, const float *g3, size_t g3_len,
                          float *out, size_t out_len);
 
-/* The same of a voice by value: the answer has the voice to play on with. It copies some 13 KB in and out, which tells in short blocks. */
+/* The voice's phases and memories become 0, and its noise starts from the default seed. Answers 0; or 13, and then changes nothing. */
+uint32_t sounder_reset_in(struct sounder_voice *voice);
+
+/* The voice's noise starts from the seed and its memories become 0; its phases go on. Answers 0; or 13, and then changes nothing. */
+uint32_t sounder_reseed_in(struct sounder_voice *voice, uint32_t seed);
+
+/* The same three of a voice by value: the answer has the voice to go on with. Each copies some 13 KB in and out, which tells in short
+ * blocks. */
 struct sounder_played_answer sounder_play(struct sounder_voice voice, struct sounder_shape shape, const float *freq, size_t freq_len,
                                           const float *g0, size_t g0_len, const float *g1, size_t g1_len, const float *g2, size_t g2_len,
                                           const float *g3, size_t g3_len, float *out, size_t out_len);
 
-/* Phases and memories 0, and the default seed. */
 struct sounder_played_answer sounder_reset(struct sounder_voice voice);
 
-/* The seed is taken, the memories are 0, the phases kept. */
 struct sounder_played_answer sounder_reseed(struct sounder_voice voice, uint32_t seed);
 
 /* How loud white noise comes out of a band at centre freq with quality q: the sum of the squares of an impulse's response. n, the samples

@@ -168,6 +168,8 @@ mod voices {
             ) -> u32;
             pub fn sounder_reset(voice: Voice) -> PlayedAnswer;
             pub fn sounder_reseed(voice: Voice, seed: u32) -> PlayedAnswer;
+            pub fn sounder_reset_in(voice: *mut Voice) -> u32;
+            pub fn sounder_reseed_in(voice: *mut Voice, seed: u32) -> u32;
             pub fn sounder_noise_power_gain(freq: f32, q: f32, rate: f32, coeffs: Coeffs) -> NoisePower;
         }
     }
@@ -208,6 +210,14 @@ mod voices {
 
     pub fn reseed(v: &Voice, seed: u32) -> PlayedAnswer {
         unsafe { c::sounder_reseed(*v, seed) }
+    }
+
+    pub fn reset_in(v: &mut Voice) -> u32 {
+        unsafe { c::sounder_reset_in(v) }
+    }
+
+    pub fn reseed_in(v: &mut Voice, seed: u32) -> u32 {
+        unsafe { c::sounder_reseed_in(v, seed) }
     }
 
     pub fn noise_power_gain(freq: f32, q: f32, rate: f32, coeffs: [f32; 5]) -> NoisePower {

@@ -116,6 +116,24 @@ pub fn our_play(v: &Voice, p: &Play, out: &mut [f32]) -> Result<ffi::PlayedAnswe
     Ok(got)
 }
 
+// A reset or a reseed both ways: by value, and of the voice where it lies.
+fn both_ways(what: &str, v: &Voice, got: ffi::PlayedAnswer, in_place: impl Fn(&mut Voice) -> u32) -> Result<ffi::PlayedAnswer, String> {
+    let mut own = *v;
+    numbers(&format!("number of a {what} in place"), in_place(&mut own), got.number)?;
+    if bytes(&own) != bytes(&got.voice) {
+        return Err(format!("a {what} in place leaves another voice"));
+    }
+    Ok(got)
+}
+
+pub fn our_reset(v: &Voice) -> Result<ffi::PlayedAnswer, String> {
+    both_ways("reset", v, ffi::reset(v), ffi::reset_in)
+}
+
+pub fn our_reseed(v: &Voice, seed: u32) -> Result<ffi::PlayedAnswer, String> {
+    both_ways("reseed", v, ffi::reseed(v, seed), |own| ffi::reseed_in(own, seed))
+}
+
 // A single voice plays all its bands, whatever its list of live bands says, and takes no notice of k.
 fn by_its_bands(v: &Voice, p: &Play, after: &Voice, heard: &[f32]) -> Result<(), String> {
     let (mut own, mut out) = (Voice { k: 4, live_count: 0, live: [0; 16], ..*v }, heard.to_vec());
@@ -208,13 +226,13 @@ pub fn check_call(v: &mut Voice, p: &mut Theirs, call: &Call, rate: f32, tally: 
             *v = got.voice;
         }
         Call::Reset => {
-            let got = ffi::reset(v);
+            let got = our_reset(v)?;
             p.ugen().reset();
             numbers("reset's number", got.number, 0)?;
             *v = got.voice;
         }
         Call::Reseed(seed) => {
-            let got = ffi::reseed(v, *seed);
+            let got = our_reseed(v, *seed)?;
             p.ugen().reseed_noise(*seed);
             numbers("reseed's number", got.number, 0)?;
             *v = got.voice;
@@ -235,8 +253,8 @@ pub fn check_call(v: &mut Voice, p: &mut Theirs, call: &Call, rate: f32, tally: 
             let mut out = filling(c.out_len);
             refusal("play of a broken voice", 13, &our_play(&b, c, &mut out)?, &b)?;
             unwritten(&out)?;
-            refusal("reset of a broken voice", 13, &ffi::reset(&b), &b)?;
-            return refusal("reseed of a broken voice", 13, &ffi::reseed(&b, 7), &b);
+            refusal("reset of a broken voice", 13, &our_reset(&b)?, &b)?;
+            return refusal("reseed of a broken voice", 13, &our_reseed(&b, 7)?, &b);
         }
     }
     if bytes(v)[..STATE] != bytes(&given)[..STATE] {

@@ -2,7 +2,8 @@
 // Digits are gathered in whole numbers: at most 15 of them after leading zeros, and at most 15 after the point.
 ghost use mathlib.Core.Path.{_≡_};
 ghost use lib.ListN.{drop};
-ghost use Rattle.console.specs.Decimal.{startScan, spoiltScan, nextScan, scanned, minusFirst, concluded, readOf, wholeOf, foundNumber};
+ghost use Rattle.console.specs.Decimal.{startScan, spoiltScan, nextScan, scanned, minusFirst, concluded};
+ghost use Rattle.console.specs.Decimal.{readOf, wholeOf, foundNumber};
 
 // digits / 10^places, less than 0 where negative.
 pub struct Decimal {

@@ -32,7 +32,8 @@ normalized b0 b1 b2 a0 a1 a2 =
 unfoldable pub bandPass : Float → Float → Float → BiquadCoeffs
 bandPass freq q rate =
     let p = paramsOf freq q rate in
-    normalized (p .alpha) (quotient 0 1) (neg (p .alpha)) (quotient 1 1 ⊕ p .alpha) (neg (quotient 2 1) ⊗ p .«cos_w0») (quotient 1 1 ⊖ p .alpha)
+    let alpha = p .alpha in
+    normalized alpha (quotient 0 1) (neg alpha) (quotient 1 1 ⊕ alpha) (neg (quotient 2 1) ⊗ p .«cos_w0») (quotient 1 1 ⊖ alpha)
 
 -- a band's centre: at most 0.9 * (rate * 0.5), then at least 20
 unfoldable pub centerOf : Float → Float → Float

@@ -24,20 +24,14 @@ played v c len =
 unfoldable pub playedOut : Voice → Call → List Float → List Float
 playedOut v c out = accepted (playQuestion v c (length out)) (blockOut (ticking v) c) out
 
--- what a play promises, where `out` is the output at the call and `out′` at the return:
--- of a voice by value
+-- what a play promises, where `out` is the output at the call and `out′` at the return. The answer `p` has the voice after the play: of a
+-- voice where it lies, the number that is answered and the voice that lies there at the return.
 pub record Plays (v : Voice) (c : Call) (out : List Float) (p : Played) (out′ : List Float) : Type 0 where
   pub answered : p ≡ played v c (length out)
   pub written : out′ ≡ playedOut v c out
 
--- of a voice whose parts are lent: the number, and the running state after the call, of which the phases and memories lie where they lay
+-- and of a voice whose parts are lent: the number, and the running state after the call, whose phases and memories lie where they lay
 pub record PlaysParts (v : Voice) (c : Call) (out : List Float) (m : Moved) (phases memories out′ : List Float) : Type 0 where
   pub answered : m .number ≡ played v c (length out) .number
   pub moves : stateOf phases memories (m .rng) ≡ played v c (length out) .voice .state
-  pub written : out′ ≡ playedOut v c out
-
--- of a voice where it lies, which is `v` at the call and `v′` at the return
-pub record PlaysIn (v : Voice) (c : Call) (out : List Float) (number : ℕ) (v′ : Voice) (out′ : List Float) : Type 0 where
-  pub answered : number ≡ played v c (length out) .number
-  pub moves : v′ ≡ played v c (length out) .voice
   pub written : out′ ≡ playedOut v c out

@@ -1,4 +1,4 @@
-// Playing a voice. The way of a block: play asks the questions, bands says which tick, block goes through the channels, channel through
+// Playing a voice. The way of a block: playing asks the questions, bands says which tick, block goes through the channels, channel through
 // the two passes (partials, one by one or in columns, and noise); input is what they read, pitch and tuning what a frequency decides.
 mod bands;
 mod block;

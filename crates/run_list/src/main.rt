@@ -1,4 +1,5 @@
-// Runs at the limits: each line is what was asked, and the number of the answer (0: accepted). The expected lines in `stdout` are document 01's.
+// Runs at the limits: each line is what was asked, and the number of the answer (0: accepted). The expected lines in `stdout` are document
+// 01's.
 mod images;
 
 use sounder::voices::sounder_make;

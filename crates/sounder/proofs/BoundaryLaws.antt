@@ -19,16 +19,17 @@ use Rattle.table.specs.Name.{nameStart}
 use Rattle.table.specs.Answer.{refusalOf}
 use Rattle.table.proofs.Spelled.{table-parts, header-parts}
 use Rattle.voice.specs.Input.{Call}
-use Rattle.voice.specs.Question.{accepted as accepted-by, playQuestion}
-use Rattle.voice.specs.Voice.{withState, stateOf}
+use Rattle.voice.specs.Question.{accepted as accepted-by, ask}
+use Rattle.voice.specs.Restart.{restarted}
+use Rattle.voice.specs.Voice.{withState, stateOf, keepsRules}
+use Rattle.voice.specs.declared.answer.Played.{Played}
+use Rattle.voice.specs.declared.answer.Restarted.{Restarted}
 use Rattle.voice.specs.declared.voice.State.{State}
 use Rattle.voice.specs.declared.voice.Voice.{Voice}
-use Rattle.player.specs.Bands.{ticking}
-use Rattle.player.specs.Block.{blockEnd}
-use Rattle.player.specs.Playing.{played, PlaysParts, PlaysIn}
+use Rattle.player.specs.Playing.{played, Plays, PlaysParts}
 use Rattle.player.specs.declared.playing.Moved.{Moved}
 use Rattle.sounder.specs.declared.answer.Answer.{Answer}
-use Rattle.sounder.specs.Answer.{refusalAnswer, done, kindOf, namePlace}
+use Rattle.sounder.specs.Answer.{refusalAnswer, done, kindOf}
 
 pub blend-kind : (n c : ℕ) → (n ≡ 0 → ⊥) → kindOf n c ≡ Kind.Blend
 blend-kind zero c h = absurd (h refl)
@@ -60,10 +61,6 @@ name-held s = go (decode s) refl
     go (ok t e) h = name-part s t e h
     go (refused r) h = refl
 
-pub name-placed : (p : Parsed CoeffTable) → record { start = nameStart p; len = length (nameOf p) } ≡ namePlace p
-name-placed (ok t e) = refl
-name-placed (refused r) = refl
-
 -- no refusal has the numbers of an accepted call
 numbered : (e : CoeffTableCodecError) → refusalOf e .number ≡ 0 → ⊥
 numbered CoeffTableCodecError.TooLong h = absurd (omega (arith, h))
@@ -77,17 +74,27 @@ numbered (CoeffTableCodecError.InconsistentNoiseBandSpan f i) h = absurd (omega 
 pub refused-apart : (e : CoeffTableCodecError) (a b : ℕ) → refusalAnswer (refusalOf e) ≡ done a b → ⊥
 refused-apart e a b h = numbered e (ap (λ (x : Answer). x .number) h)
 
--- a play leaves of a voice all but its running state, refused or not
-state-moves : (q : ℕ) (v : Voice) (s : State) → withState v (accepted-by q (withState v s) v .state) ≡ accepted-by q (withState v s) v
-state-moves zero v s = refl
-state-moves (suc q) v s = refl
+-- a call leaves of a voice all but its running state, refused or not: so who stores the state that it comes to has the voice that it comes to
+moved-in : (q n : ℕ) (v : Voice) (s x : State) → n ≡ q → x ≡ accepted-by q (withState v s) v .state
+    → _≡_ {A = Played} (record { number = n; voice = withState v x }) (record { number = q; voice = accepted-by q (withState v s) v })
+moved-in zero n v s x e h = rw (e, h)
+moved-in (suc q) n v s x e h = rw (e, h)
 
--- so a voice where it lies is played where its phases and memories are left and the noise number is stored
+-- a play of a voice where it lies: its phases and memories are left, and the noise number is stored
 pub plays-in : (v : Voice) (c : Call) (out : List Float) (m : Moved) (ps ms ys : List Float) → PlaysParts v c out m ps ms ys
-    → PlaysIn v c out (m .number) (withState v (stateOf ps ms (m .rng))) ys
+    → Plays v c out (record { number = m .number; voice = withState v (stateOf ps ms (m .rng)) }) ys
 unfolding played
-plays-in v c out m ps ms ys P = record {
-  answered = P .answered;
-  moves = ap (withState v) (P .moves) ∙ state-moves (playQuestion v c (length out)) v (blockEnd (ticking v) c);
-  written = P .written;
-}
+plays-in v c out m ps ms ys P = record { answered = moved-in _ _ v _ _ (P .answered) (P .moves); written = P .written }
+
+-- a reset or a reseed of one, s being the state after where it is accepted: the state that it comes to is stored
+state-accepted : (q : ℕ) (v : Voice) (s : State) → accepted-by q s (v .state) ≡ accepted-by q (withState v s) v .state
+state-accepted zero v s = refl
+state-accepted (suc q) v s = refl
+
+pub restarts-in : (v : Voice) (s : State) (r : Restarted) → r ≡ restarted (v .set) (v .lists) (v .state) s
+    → _≡_ {A = Played} (record { number = r .number; voice = withState v (r .state) })
+    (let q = ask (keepsRules v) 13 0 in record { number = q; voice = accepted-by q (withState v s) v })
+unfolding restarted
+restarts-in v s r e =
+    let q = ask (keepsRules v) 13 0 in
+    moved-in q (r .number) v s (r .state) (ap (λ (x : Restarted). x .number) e) (ap (λ (x : Restarted). x .state) e ∙ state-accepted q v s)

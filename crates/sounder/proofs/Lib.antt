@@ -1,2 +1,3 @@
+pub mod Borrowed
 pub mod BoundaryLaws
 pub mod Fields

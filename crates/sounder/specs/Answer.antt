@@ -3,6 +3,8 @@ use Prim.Native.Nat.{ℕ, zero, suc}
 use lib.ListN.{length}
 use Rattle.wire.specs.Parse.{Refusal, Parsed, ok, refused}
 use Rattle.table.specs.Table.{CoeffTable}
+use Rattle.table.specs.Decode.{nameOf}
+use Rattle.table.specs.Name.{nameStart}
 use Rattle.table.specs.declared.desk.Kind.{Kind}
 use Rattle.table.specs.Desk.{Outcome, desk, refusedBy}
 use Rattle.sounder.specs.declared.answer.Answer.{Answer}
@@ -21,10 +23,9 @@ abbrev pub countsAnswer : Parsed ℕ → Answer
 countsAnswer (ok n end) = done n end
 countsAnswer (refused r) = refusalAnswer r
 
--- the name starts after the mark, the version and its own length; a refused image has the empty part at 0
+-- the place of the name in the image; a refused image has the empty part at 0
 abbrev pub namePlace : Parsed CoeffTable → Place
-namePlace (ok t end) = record { start = 10; len = length (t .name) }
-namePlace (refused r) = record { start = 0; len = 0 }
+namePlace p = record { start = nameStart p; len = length (nameOf p) }
 
 -- a voice's kind by number: 0 is a single voice of the channel, any other number a blend
 abbrev pub kindOf : ℕ → ℕ → Kind

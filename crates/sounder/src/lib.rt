@@ -4,6 +4,7 @@ mod answer;
 pub mod images;
 mod kind;
 pub mod play_in;
+pub mod restart_in;
 pub mod voices;
 
 pub use answer::Answer;

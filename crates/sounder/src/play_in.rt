@@ -1,7 +1,7 @@
 // Playing a voice where it lies: its lists, phases and memories are lent, and nothing of it is copied but its numbers and the noise
 // number, which tells in short blocks.
 ghost use Rattle.voice.specs.Input.{call};
-ghost use Rattle.player.specs.Playing.{PlaysIn};
+ghost use Rattle.player.specs.Playing.{Plays};
 use player::play_parts;
 use voice::Shape;
 use voice::Voice;
@@ -18,9 +18,9 @@ pub extern "C" fn sounder_play_in(
     g3: &[f32],
     out: &mut [f32],
 ) -> u32
-    ensures { λ r. ⌜ PlaysIn (now (voice .entry)) (call shape (now (freq .entry)) (now (g0 .entry)) (now (g1 .entry)) (now (g2 .entry))
-        (now (g3 .entry)))
-        (now (out .entry)) r (now (voice .exit)) (now (out .exit)) ⌝ }
+    ensures { λ r. ⌜ Plays (now (voice .entry))
+        (call shape (now (freq .entry)) (now (g0 .entry)) (now (g1 .entry)) (now (g2 .entry)) (now (g3 .entry)))
+        (now (out .entry)) (record { number = r; voice = now (voice .exit) }) (now (out .exit)) ⌝ }
 {
     let set = voice.set;
     let rng = voice.state.rng;

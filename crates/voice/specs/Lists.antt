@@ -1,7 +1,7 @@
 -- Lists that a counting loop builds.
 use mathlib.Core.List.{List, [], _∷_, _++_}
 use mathlib.Core.Bool.{Bool, true, _&&_}
-use Prim.Native.Nat.{ℕ, zero, suc, _+_, _-_}
+use Prim.Native.Nat.{ℕ, zero, suc, _-_}
 use lib.ListN.{length, replicate}
 
 -- the first n elements of a list, each given its index from k and mapped; the rest as they are

@@ -9,6 +9,7 @@ mod shape;
 mod voice;
 
 pub use answer::Played;
+pub use answer::Restarted;
 pub use filters::BiquadCoeffs;
 pub use filters::Rng;
 pub use limits::MAX_BANDS;
@@ -29,7 +30,9 @@ pub use lists::list_of;
 pub use question::play_question;
 pub use restart::first_state;
 pub use restart::reseed;
+pub use restart::reseed_state;
 pub use restart::reset;
+pub use restart::reset_state;
 pub use rules::pitch_ok;
 pub use rules::rate_ok;
 pub use rules::stretch_ok;

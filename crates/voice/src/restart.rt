@@ -1,9 +1,12 @@
 // Reset and reseed, with question 13.
 ghost use mathlib.Core.Path.{_≡_};
-ghost use Rattle.voice.specs.Restart.{resetOf, reseedOf};
+ghost use Rattle.voice.specs.Restart.{resetOf, reseedOf, reseededState, restarted};
 ghost use Rattle.voice.specs.Voice.{firstState};
 use crate::answer::Played;
+use crate::answer::Restarted;
 use crate::rules::keeps_rules;
+use crate::rules::rules_of;
+use crate::voice::Setting;
 use crate::voice::State;
 use crate::voice::Voice;
 use filters::Rng;
@@ -16,6 +19,18 @@ pub fn first_state() -> State
         phases: [0.0; 32],
         memories: [0.0; 32],
         rng: Rng::default(),
+    }
+}
+
+// The seed is taken, the memories are 0, the phases kept.
+fn reseeded(state: State, seed: u32) -> State
+    ensures { λ r. ⌜ r ≡ reseededState state seed ⌝ }
+{
+    let phases = state.phases;
+    State {
+        phases,
+        memories: [0.0; 32],
+        rng: Rng::new(seed),
     }
 }
 
@@ -39,12 +54,34 @@ pub fn reseed(mut voice: Voice, seed: u32) -> Played
         return Played { number: 13, voice };
     }
     let old = voice.state;
-    let phases = old.phases;
-    let state = State {
-        phases,
-        memories: [0.0; 32],
-        rng: Rng::new(seed),
-    };
+    let state = reseeded(old, seed);
     voice.state = state;
     Played { number: 0, voice }
+}
+
+// Of a voice whose numbers, short lists and running state are handed in by themselves: 0 and the state after, where question 13 is answered
+// yes; else 13 and the state as given.
+fn restart(set: Setting, lists: [f32; 160], state: State, after: State) -> Restarted
+    ensures { λ r. ⌜ r ≡ restarted set lists state after ⌝ }
+{
+    if !rules_of(set, &lists, &state.phases) {
+        return Restarted { number: 13, state };
+    }
+    Restarted {
+        number: 0,
+        state: after,
+    }
+}
+
+// Reset and reseed of such a voice: what they come to where a voice lies.
+pub fn reset_state(set: Setting, lists: [f32; 160], state: State) -> Restarted
+    ensures { λ r. ⌜ r ≡ restarted set lists state firstState ⌝ }
+{
+    restart(set, lists, state, first_state())
+}
+
+pub fn reseed_state(set: Setting, lists: [f32; 160], state: State, seed: u32) -> Restarted
+    ensures { λ r. ⌜ r ≡ restarted set lists state (reseededState state seed) ⌝ }
+{
+    restart(set, lists, state, reseeded(state, seed))
 }

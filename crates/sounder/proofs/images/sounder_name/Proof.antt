@@ -1,5 +1,5 @@
-use Rattle.table.specs.Decode.{decode}
-use Rattle.sounder.proofs.BoundaryLaws.{name-held, name-placed}
+use mathlib.Core.Path.{refl}
+use Rattle.sounder.proofs.BoundaryLaws.{name-held}
 use borrow.Author.Needs.{needs}
 use Rattle.sounder.proofs.images.sounder_name.Statement.{statement}
 use Rattle.sounder.proofs.images.sounder_name.Tie as tie
@@ -16,7 +16,7 @@ name-requires c κs = search needs
 returns : tie.Need-returns
 returns c =
     let s = c .before .before .before .args .image .now in
-    rw (c .before .name-at .ensures, c .name .ensures .0) (name-held s, name-placed (decode s))
+    rw (c .before .name-at .ensures, c .name .ensures .0) (name-held s, refl)
 
 pub sounder-name-spec : {M : Type 1} → statement M
 sounder-name-spec = tie.close (tie.spec name-at-requires name-requires returns)

@@ -1,9 +1,9 @@
--- `sounder_play_in` meets its contract: a walk of its MIR, by hand. The borrow of the voice is opened; its numbers and its noise number are copied; its
--- lists, phases and memories are lent for lifetimes that are made for the call (`Fields.antt`); they come back, the lists as they were, phases and
--- memories as the call left them; the new noise number is stored; and the borrow is closed.
+-- `sounder_play_in` meets its contract: a walk of its MIR, by hand. The borrow of the voice is opened (`Borrowed.antt`); its numbers and its noise number
+-- are copied; its lists, phases and memories are lent for lifetimes that are made for the call (`Fields.antt`); they come back, the lists as they were,
+-- phases and memories as the call left them; the new noise number is stored; and the borrow is closed.
 -- All that the proof knows of `play_parts` is that it meets its contract.
 -- Assumes nothing.
-use mathlib.Core.Path.{_≡_, refl, ap, subst}
+use mathlib.Core.Path.{_≡_, refl, ap}
 use Prim.Native.Nat.{ℕ, _<_, _^_, _+_}
 use mathlib.Core.List.{[], _∷_, List}
 use lib.Ieee.{Float}
@@ -33,8 +33,7 @@ use denote.Plain.{uint-makes}
 use denote.Builtin.{f32, u32}
 use denote.Ref.{RefT, MutRef, ptr-vals, mut-tells}
 use denote.Slice.{sliceVal, slice-vals, ShrSlice, MutSlice, Room, finally, shr-slice-tells, mut-slice-tells, shr-slice-copy}
-use denote.Steps.{only, opens, closes, owned, peeks, heard, nothing}
-use denote.Struct.Steps.{spelt}
+use denote.Steps.{only, owned, peeks, heard, nothing}
 use denote.Struct.Laws as LL
 use denote.Triple.Entry.{onEntry}
 use denote.Triple.Spec.{Meets, tripleOf}
@@ -59,13 +58,12 @@ use Rattle.voice.specs.declared.voice.Setting.{Setting}
 use Rattle.voice.specs.declared.shape.Shape.{Shape}
 use Rattle.voice.proofs.shape.Shape as B
 use Rattle.voice.proofs.shape.Shape.Laws as B′
-use Rattle.voice.proofs.voice.State as S
-use Rattle.voice.proofs.voice.State.Laws as S′
 use Rattle.filters.proofs.rng.Rng as G
 use Rattle.filters.proofs.rng.Rng.Laws as G′
 use Rattle.player.proofs.playing.Moved as R
 use Rattle.player.proofs.playing.Moved.Laws as R′
 use Rattle.sounder.proofs.BoundaryLaws.{plays-in}
+use Rattle.sounder.proofs.Borrowed.{IsVoice, IsRng, written-out, is-set, is-state, is-rng, with-rng, with-state, typed-set, typed-rng, spelt-voice, opens-voice, closes-voice}
 use Rattle.sounder.proofs.Fields.{Names, listAt, ToLists, ToPartials, ToNoise, ToPhases, ToMemories, Kept, lends, back, whole-in, whole-out}
 use Rattle.player.proofs.play_parts as parts
 use Rattle.player.proofs.play_parts.Symbol as parts-def
@@ -157,42 +155,9 @@ module _ {M : Type 1} (𝓤 : URA M) (H : Heap 𝓤) (A : Atoms 𝓤) (W : Given
     tt,
   )
 
-  -- what whoever holds a voice knows of its numbers, and of its noise number
-  is-set : (v : Voice) → Is T.the-row v (T′.lowered v ∷ []) → Is N.the-row (v .set) (N′.lowered (v .set) ∷ [])
-  is-set v g =
-      let k = LL.owed T.the-type T′.the-laws v (T′.lowered v ∷ []) g .0 in
-      subst (Is N.the-row (v .set)) (N′.lowers .val-is (v .set) _ k) k
-
-  is-state : (v : Voice) → Is T.the-row v (T′.lowered v ∷ []) → Is S.the-row (v .state) (S′.lowered (v .state) ∷ [])
-  is-state v g =
-      let k = LL.owed T.the-type T′.the-laws v (T′.lowered v ∷ []) g .1 .1 .1 .1 .0 in
-      subst (Is S.the-row (v .state)) (S′.lowers .val-is (v .state) _ k) k
-
-  is-rng : (v : Voice) → Is T.the-row v (T′.lowered v ∷ []) → Is G.the-row (v .state .rng) (G′.lowered (v .state .rng) ∷ [])
-  is-rng v g =
-      let k = LL.owed S.the-type S′.the-laws (v .state) (S′.lowered (v .state) ∷ []) (is-state v g) .1 .1 .0 in
-      subst (Is G.the-row (v .state .rng)) (G′.lowers .val-is (v .state .rng) _ k) k
-
-  -- what closing the borrow asks: the voice with another noise number
-  abbrev withRng : Voice → Rng → Voice
-  withRng v x = withState v (stateOf (v .state .phases) (v .state .memories) x)
-
-  made : (v : Voice) (x : Rng) → Is T.the-row v (T′.lowered v ∷ []) → Is G.the-row x (G′.lowered x ∷ []) → Is T.the-row (withRng v x) (T′.lowered (withRng v x) ∷ [])
-  made v x g is =
-      let was = LL.owed T.the-type T′.the-laws v (T′.lowered v ∷ []) g in
-      let was-state = LL.owed S.the-type S′.the-laws (v .state) (S′.lowered (v .state) ∷ []) (is-state v g) in
-      let s = stateOf (v .state .phases) (v .state .memories) x in
-      let rng-is = subst (Is G.the-row x) (G′.the-field-laws .tells (G.the-type .to x) _ is) is in
-      let j = LL.owes S.the-type S′.the-laws s (was-state .0, (was-state .1 .0, (rng-is, tt))) in
-      let state-is = subst (Is S.the-row s) (S′.the-field-laws .tells (S.the-type .to s) _ j) j in
-      let k = LL.owes T.the-type T′.the-laws (withRng v x) (was .0, (was .1 .0, (was .1 .1 .0, (was .1 .1 .1 .0, (state-is, tt))))) in
-      subst (Is T.the-row (withRng v x)) (T′.lowers .val-is (withRng v x) _ k) k
-
   -- what the result says of the new noise number, and of the number
-  moved-rng : (r : Moved) (w : Val) → Is R.the-row r (w ∷ []) → Is G.the-row (r .rng) (G′.lowered (r .rng) ∷ [])
-  moved-rng r w is =
-      let k = LL.owed R.the-type R′.the-laws r (w ∷ []) is .1 .0 in
-      subst (Is G.the-row (r .rng)) (G′.lowers .val-is (r .rng) _ k) k
+  moved-rng : (r : Moved) (w : Val) → Is R.the-row r (w ∷ []) → IsRng (r .rng)
+  moved-rng r w is = written-out G′.lowers (r .rng) _ (LL.owed R.the-type R′.the-laws r (w ∷ []) is .1 .0)
 
   number-fits : (r : Moved) (w : Val) → Is R.the-row r (w ∷ []) → r .number < 2 ^ 32
   number-fits r w is = LL.owed R.the-type R′.the-laws r (w ∷ []) is .0 .1
@@ -215,8 +180,15 @@ module _ {M : Type 1} (𝓤 : URA M) (H : Heap 𝓤) (A : Atoms 𝓤) (W : Given
   abbrev Said : Moved → List Float → List Float → List Float → Type 0
   Said r ps ms zs = PlaysParts h c (os .now) r ps ms zs
 
+  -- the voice as it comes back from the work, and with the new noise number
+  abbrev back-voice : List Float → List Float → Voice
+  back-voice ps ms = withState h (stateOf ps ms (h .state .rng))
+
   abbrev after : Moved → List Float → List Float → Voice
   after r ps ms = withState h (stateOf ps ms (r .rng))
+
+  after-is : (r : Moved) (ps ms : List Float) → IsVoice (back-voice ps ms) → IsRng (r .rng) → IsVoice (after r ps ms)
+  after-is r ps ms g is = with-state (back-voice ps ms) (stateOf ps ms (r .rng)) g (with-rng (stateOf ps ms (h .state .rng)) (r .rng) (is-state (back-voice ps ms) g) is)
 
   exits : (r : Moved) (ps ms zs : List Float) → Is B.the-row bl (B′.lowered bl ∷ []) → Said r ps ms zs → length zs ≡ length (os .now) → r .number < 2 ^ 32
       → ent 𝓤 (⋆ 𝓤 H A (‵ (fobs γ (T.the-row .coded .code (after r ps ms))) ∷ ‵ (fbor κ (Body (mem T.the-row) b o γ)) ∷ ‵ (flft κ q) ∷ Tokens ∷ ‵ (finally f32 (os .name) zs) ∷ ‵ Freq ∷ ‵ G0 ∷ ‵ G1 ∷ ‵ G2 ∷ ‵ G3 ∷ [])) (Post (vint w32 (r .number)))
@@ -237,11 +209,10 @@ module _ {M : Type 1} (𝓤 : URA M) (H : Heap 𝓤) (A : Atoms 𝓤) (W : Given
         pass1 ! (init ! 36 refl (tt, tt)) $ pass1 ! (init ! 34 refl (LL.lawful B.the-type B′.the-laws 𝓤 H A W .typed bl _ is-b .0)) $ pass1 ! (init ! 32 refl (tt, (tt, (record { fits = rf .0 }, tt)))) $ pass1 ! (init ! 30 refl (tt, (tt, (record { fits = r0 .0 }, tt)))) $ pass1 ! (init ! 28 refl (tt, (tt, (record { fits = r1 .0 }, tt)))) $ pass1 ! (init ! 26 refl (tt, (tt, (record { fits = r2 .0 }, tt)))) $ pass1 ! (init ! 24 refl (tt, (tt, (record { fits = r3 .0 }, tt)))) $ pass1 ! (init ! 22 refl (tt, (tt, (record { fits = ro .0 }, tt)))) $ pass0 ! $
         -- the borrow of the voice is opened
         move ! (41 ∷ []) $ fsplit ! $ fsplit3 ! $ drop ! $ move ! (43 ∷ []) $ split ! $ move ! (2 ∷ 3 ∷ 0 ∷ []) $
-        opens ! tt T.the-row {h = h} b o (λ vs. spelt ! T.the-row (Is T.the-row) (shows 𝓤 H A T.the-row) (λ d. T′.lowered d ∷ []) (T′.lowers .val-is) fullShare h vs b o $
-        move ! (1 ∷ []) $ peeks ! T.the-row (Is T.the-row) (shows 𝓤 H A T.the-row) h (T′.lowered h ∷ []) (λ g. move ! (1 ∷ 0 ∷ []) $ use1 W (‵ (fat fullShare T′.mir b o (T′.lowered h))) (W .laws .raw-at fullShare T′.mir b o (T′.lowered h)) $
+        opens-voice ! tt h b o (λ g.
         -- [the voice's cell; what it owns; the open borrow; obs; auth; the other tokens; the other parameters; _19; …; _0; …]
-        assigns ! (of-opd ! (load ! (from ! (hop ! (look ! 43 refl) (fld ! refl (stop !)))) (look-in ! 0 (sub ! 0 refl (whole !))))) (from ! (stop !)) (init ! 27 refl (LL.lawful N.the-type N′.the-laws 𝓤 H A W .typed (h .set) _ (is-set h g) .0)) $
-        assigns ! (of-opd ! (load ! (from ! (hop ! (look ! 43 refl) (fld ! refl (fld ! refl (stop !))))) (look-in ! 0 (sub ! 2 refl (sub ! 4 refl (whole !)))))) (from ! (stop !)) (init ! 25 refl (LL.lawful G.the-type G′.the-laws 𝓤 H A W .typed (h .state .rng) _ (is-rng h g) .0)) $
+        assigns ! (of-opd ! (load ! (from ! (hop ! (look ! 43 refl) (fld ! refl (stop !)))) (look-in ! 0 (sub ! 0 refl (whole !))))) (from ! (stop !)) (init ! 27 refl (typed-set 𝓤 H A W (h .set) (is-set h g))) $
+        assigns ! (of-opd ! (load ! (from ! (hop ! (look ! 43 refl) (fld ! refl (fld ! refl (stop !))))) (look-in ! 0 (sub ! 2 refl (sub ! 4 refl (whole !)))))) (from ! (stop !)) (init ! 25 refl (typed-rng 𝓤 H A W (h .state .rng) (is-rng (h .state) (is-state h g)))) $
         assigns ! (addr ! (from ! (hop ! (look ! 43 refl) (fld ! refl (stop !))))) (from ! (stop !)) (init ! 19 refl (tt, tt)) $
         assigns ! (addr ! (from ! (hop ! (look ! 43 refl) (fld ! refl (stop !))))) (from ! (stop !)) (init ! 17 refl (tt, tt)) $
         assigns ! (addr ! (from ! (hop ! (look ! 43 refl) (fld ! refl (stop !))))) (from ! (stop !)) (init ! 15 refl (tt, tt)) $
@@ -262,7 +233,7 @@ module _ {M : Type 1} (𝓤 : URA M) (H : Heap 𝓤) (A : Atoms 𝓤) (W : Given
         fsplit ! $ use1 W (‵ G2 ⊛ ‵ G2) (shr-slice-copy 𝓤 H A W (named 4) κ₄ f32 .twice s2 (vs2 ∷ [])) $ split ! $ move ! (2 ∷ []) $
         fsplit ! $ use1 W (‵ G3 ⊛ ‵ G3) (shr-slice-copy 𝓤 H A W (named 5) κ₅ f32 .twice s3 (vs3 ∷ [])) $ split ! $ move ! (2 ∷ []) $
         move ! (1 ∷ 0 ∷ []) $ fjoin ! $ move ! (2 ∷ 0 ∷ []) $ fjoin ! $ move ! (3 ∷ 0 ∷ []) $ fjoin ! $ move ! (4 ∷ 0 ∷ []) $ fjoin ! $ move ! (5 ∷ 0 ∷ []) $ fjoin ! $
-        owned ! B.the-row (Is B.the-row) (LL.makes B.the-type B′.the-plain 𝓤 H A) bl _ is-b $ fjoin ! $ owned ! G.the-row (Is G.the-row) (LL.makes G.the-type G′.the-plain 𝓤 H A) (h .state .rng) _ (is-rng h g) $ fjoin ! $
+        owned ! B.the-row (Is B.the-row) (LL.makes B.the-type B′.the-plain 𝓤 H A) bl _ is-b $ fjoin ! $ owned ! G.the-row (Is G.the-row) (LL.makes G.the-type G′.the-plain 𝓤 H A) (h .state .rng) _ (is-rng (h .state) (is-state h g)) $ fjoin ! $
         move ! (6 ∷ 0 ∷ []) $ fjoin ! $ move ! (7 ∷ 0 ∷ []) $ fjoin ! $ move ! (7 ∷ 0 ∷ []) $ fjoin ! $ move ! (7 ∷ 0 ∷ []) $ fjoin ! $ move ! (7 ∷ 0 ∷ []) $ fjoin ! $
         owned ! N.the-row (Is N.the-row) (LL.makes N.the-type N′.the-plain 𝓤 H A) (h .set) _ (is-set h g) $ fjoin ! $
         move ! (7 ∷ 13 ∷ []) $ join ! $ move ! (8 ∷ 0 ∷ []) $ join ! $ move ! (8 ∷ 0 ∷ []) $ join ! $ use2 W (raw (Work 𝓤 H A at-mem run .pre (to-work ν μ π γ))) (goes ν μ π γ) $
@@ -278,20 +249,19 @@ module _ {M : Type 1} (𝓤 : URA M) (H : Heap 𝓤) (A : Atoms 𝓤) (W : Given
         -- the lifetimes are ended, and the voice is whole again
         move ! (1 ∷ []) $ split ! $ lft-end ! tt $ move ! (1 ∷ []) $ split ! $ lft-end ! tt $ move ! (1 ∷ []) $ split ! $ lft-end ! tt $
         move ! (7 ∷ 14 ∷ []) $ join ! $ move ! (8 ∷ 0 ∷ []) $ join ! $ move ! (1 ∷ 0 ∷ []) $ join ! $ move ! (2 ∷ 0 ∷ []) $ join ! $ move ! (2 ∷ 0 ∷ []) $ join ! $
-        use1 W (later (‵ (partAt T.the-row fullShare (withState h (stateOf (zs .1 .1 .1 .1 .0) (zs .1 .1 .1 .1 .1 .0) (h .state .rng))) b o))) (back 𝓤 H A W h b o (named 0) (ν ∷ []) (μ ∷ []) (π ∷ []) γ (zs .1 .1 .1 .1 .0) (zs .1 .1 .1 .1 .1 .0)) $ await ! tt $
-        use1 W (some (λ (us : List Val). ‵ (cellAt fullShare (T.the-row .mir) us b o) ⊛ ‵ (T.the-row .own (withState h (stateOf (zs .1 .1 .1 .1 .0) (zs .1 .1 .1 .1 .1 .0) (h .state .rng))) us))) (whole-out 𝓤 H A W (withState h (stateOf (zs .1 .1 .1 .1 .0) (zs .1 .1 .1 .1 .1 .0) (h .state .rng))) b o) $ pick ! (λ us. split ! $
-        spelt ! T.the-row (Is T.the-row) (shows 𝓤 H A T.the-row) (λ d. T′.lowered d ∷ []) (T′.lowers .val-is) fullShare (withState h (stateOf (zs .1 .1 .1 .1 .0) (zs .1 .1 .1 .1 .1 .0) (h .state .rng))) us b o $ move ! (1 ∷ []) $ peeks ! T.the-row (Is T.the-row) (shows 𝓤 H A T.the-row) (withState h (stateOf (zs .1 .1 .1 .1 .0) (zs .1 .1 .1 .1 .1 .0) (h .state .rng))) (T′.lowered (withState h (stateOf (zs .1 .1 .1 .1 .0) (zs .1 .1 .1 .1 .1 .0) (h .state .rng))) ∷ []) (λ g′. drop ! $ use1 W (‵ (fat fullShare T′.mir b o (T′.lowered (withState h (stateOf (zs .1 .1 .1 .1 .0) (zs .1 .1 .1 .1 .1 .0) (h .state .rng)))))) (W .laws .raw-at fullShare T′.mir b o (T′.lowered (withState h (stateOf (zs .1 .1 .1 .1 .0) (zs .1 .1 .1 .1 .1 .0) (h .state .rng))))) $
+        use1 W (later (‵ (partAt T.the-row fullShare (back-voice (zs .1 .1 .1 .1 .0) (zs .1 .1 .1 .1 .1 .0)) b o))) (back 𝓤 H A W h b o (named 0) (ν ∷ []) (μ ∷ []) (π ∷ []) γ (zs .1 .1 .1 .1 .0) (zs .1 .1 .1 .1 .1 .0)) $ await ! tt $
+        use1 W (some (λ (us : List Val). ‵ (cellAt fullShare (T.the-row .mir) us b o) ⊛ ‵ (T.the-row .own (back-voice (zs .1 .1 .1 .1 .0) (zs .1 .1 .1 .1 .1 .0)) us))) (whole-out 𝓤 H A W (back-voice (zs .1 .1 .1 .1 .0) (zs .1 .1 .1 .1 .1 .0)) b o) $ pick ! (λ us. split ! $
+        spelt-voice ! (back-voice (zs .1 .1 .1 .1 .0) (zs .1 .1 .1 .1 .1 .0)) us b o (λ g′. move ! (1 ∷ []) $ drop ! $
         -- [the voice's cell; the tokens; the result; the last samples; …; the inputs; the open borrow; obs; auth; _19; …; _0; …]
-        assigns ! (of-opd ! (load ! (from ! (fld ! refl (stop !))) (look-in ! 29 (sub ! 1 refl (whole !))))) (from ! (stop !)) (init ! 27 refl (LL.lawful G.the-type G′.the-laws 𝓤 H A W .typed (r .rng) _ (moved-rng r w is) .0)) $
-        assigns ! (of-opd ! (load ! (from ! (stop !)) (look ! 27 refl))) (from ! (hop ! (look ! 49 refl) (fld ! refl (fld ! refl (stop !))))) (store-in ! 0 (sub ! 2 refl (sub ! 4 refl (whole !))) (LL.lawful G.the-type G′.the-laws 𝓤 H A W .typed (r .rng) _ (moved-rng r w is) .0)) $
+        assigns ! (of-opd ! (load ! (from ! (fld ! refl (stop !))) (look-in ! 29 (sub ! 1 refl (whole !))))) (from ! (stop !)) (init ! 27 refl (typed-rng 𝓤 H A W (r .rng) (moved-rng r w is))) $
+        assigns ! (of-opd ! (load ! (from ! (stop !)) (look ! 27 refl))) (from ! (hop ! (look ! 49 refl) (fld ! refl (fld ! refl (stop !))))) (store-in ! 0 (sub ! 2 refl (sub ! 4 refl (whole !))) (typed-rng 𝓤 H A W (r .rng) (moved-rng r w is))) $
         assigns ! (of-opd ! (load ! (from ! (fld ! refl (stop !))) (look-in ! 29 (sub ! 0 refl (whole !))))) (from ! (stop !)) (init ! 51 refl (tt, record { fits = number-fits r w is })) $
         -- the borrow is closed at the voice with the new state
-        use1 W (‵ (cellAt fullShare (T.the-row .mir) (T′.lowered (after r (zs .1 .1 .1 .1 .0) (zs .1 .1 .1 .1 .1 .0)) ∷ []) b o)) (W .laws .at-raw fullShare T′.mir b o (T′.lowered (after r (zs .1 .1 .1 .1 .0) (zs .1 .1 .1 .1 .1 .0)))) $
-        owned ! T.the-row (Is T.the-row) (LL.makes T.the-type T′.the-plain 𝓤 H A) (after r (zs .1 .1 .1 .1 .0) (zs .1 .1 .1 .1 .1 .0)) _ (made (withState h (stateOf (zs .1 .1 .1 .1 .0) (zs .1 .1 .1 .1 .1 .0) (h .state .rng))) (r .rng) g′ (moved-rng r w is)) $ move ! (1 ∷ 0 ∷ 11 ∷ 12 ∷ 13 ∷ []) $ closes ! tt T.the-row (after r (zs .1 .1 .1 .1 .0) (zs .1 .1 .1 .1 .1 .0)) (T′.lowered (after r (zs .1 .1 .1 .1 .0) (zs .1 .1 .1 .1 .1 .0)) ∷ []) b o $
+        move ! (0 ∷ 10 ∷ 11 ∷ 12 ∷ []) $ closes-voice ! tt (after r (zs .1 .1 .1 .1 .0) (zs .1 .1 .1 .1 .1 .0)) b o (after-is r (zs .1 .1 .1 .1 .0) (zs .1 .1 .1 .1 .1 .0) g′ (moved-rng r w is)) $
         -- [obs; the borrow; its token; the other tokens; the result; the last samples; …; g3; g2; g1; g0; freq; _19; …; _0; …]
         returns ! (look ! 50 refl) $ forget ! 12 refl $ forget ! 14 refl $ forget ! 16 refl $ forget ! 18 refl $ forget ! 20 refl $ forget ! 22 refl $ forget ! 24 refl $ forget ! 26 refl $ forget ! 28 refl $ forget ! 30 refl $ forget ! 32 refl $ forget ! 34 refl $ forget ! 36 refl $ forget ! 38 refl $ forget ! 40 refl $ forget ! 42 refl $ forget ! 44 refl $ forget ! 46 refl $ forget ! 48 refl $ forget ! 50 refl $
         move ! (50 ∷ 51 ∷ []) $ free1 ! $ move ! (48 ∷ 49 ∷ []) $ free1 ! $ move ! (46 ∷ 47 ∷ []) $ free1 ! $ move ! (44 ∷ 45 ∷ []) $ free1 ! $ move ! (42 ∷ 43 ∷ []) $ free1 ! $ move ! (40 ∷ 41 ∷ []) $ free1 ! $ move ! (38 ∷ 39 ∷ []) $ free1 ! $ move ! (36 ∷ 37 ∷ []) $ free1 ! $ move ! (34 ∷ 35 ∷ []) $ free1 ! $ move ! (32 ∷ 33 ∷ []) $ free1 ! $ move ! (30 ∷ 31 ∷ []) $ free1 ! $ move ! (28 ∷ 29 ∷ []) $ free1 ! $ move ! (26 ∷ 27 ∷ []) $ free1 ! $ move ! (24 ∷ 25 ∷ []) $ free1 ! $ move ! (22 ∷ 23 ∷ []) $ free1 ! $ move ! (20 ∷ 21 ∷ []) $ free1 ! $ move ! (18 ∷ 19 ∷ []) $ free1 ! $ move ! (16 ∷ 17 ∷ []) $ free1 ! $ move ! (14 ∷ 15 ∷ []) $ free1 ! $ move ! (12 ∷ 13 ∷ []) $ free1 ! $ free0 ! $
-        keep ! (0 ∷ 1 ∷ 2 ∷ 3 ∷ 5 ∷ 11 ∷ 10 ∷ 9 ∷ 8 ∷ 7 ∷ []) $ by ! (exits r (zs .1 .1 .1 .1 .0) (zs .1 .1 .1 .1 .1 .0) (zs .1 .1 .1 .1 .1 .1 .1 .1 .1 .1 .1 .1 .1 .0) is-b e l (number-fits r w is))))))))))))))))))))))))))))))))))))
+        keep ! (0 ∷ 1 ∷ 2 ∷ 3 ∷ 5 ∷ 11 ∷ 10 ∷ 9 ∷ 8 ∷ 7 ∷ []) $ by ! (exits r (zs .1 .1 .1 .1 .0) (zs .1 .1 .1 .1 .1 .0) (zs .1 .1 .1 .1 .1 .1 .1 .1 .1 .1 .1 .1 .1 .0) is-b e l (number-fits r w is)))))))))))))))))))))))))))))))))))
 
 module _ {M : Type 1} (𝓤 : URA M) (H : Heap 𝓤) (A : Atoms 𝓤) (W : Given 𝓤 H A) (mem : Memory → SProp 𝓤) (run : Routine → Fun 𝓤) where
   sounder-play-in-walks : (C : Calls 𝓤 H) (Λ : Loops 𝓤 H) → FmC 𝓤 H (W .laws) C → Triple 𝓤 (C #player·play-parts) (Work 𝓤 H A mem run) → Walks 𝓤 H A f.ended stayed (WpFn 𝓤 H C Λ code.function) (f.clauses 𝓤 H A mem run)

@@ -1,7 +1,6 @@
 -- `reseed` meets its contract.
 use mathlib.Core.Path.{sym, _∙_}
 use borrow.Author.Tests.{not-true, not-false}
-use lib.Ieee.{ofBits, round}
 use Rattle.voice.specs.Question.{ask}
 use Rattle.voice.specs.Restart.{reseedOf}
 use borrow.Author.Needs.{needs}
@@ -17,15 +16,15 @@ returns c =
     let b1 = c .before in
     rw (sym (b1 .keeps-rules .ensures) ∙ not-true _ (c .if1 .taken))
 
-new-requires : tie.Need-new-requires
-new-requires c κs = search needs
+reseeded-requires : tie.Need-reseeded-requires
+reseeded-requires c κs = search needs
 
 returns-2 : tie.Need-returns-2
-unfolding reseedOf ask ofBits round
+unfolding reseedOf ask
 returns-2 c =
-    let b3 = c .before .before .before in
-    let b4 = b3 .before in
-    rw (sym (b4 .keeps-rules .ensures) ∙ not-false _ (b3 .if1 .left), c .new .ensures)
+    let b2 = c .before .before in
+    let b3 = b2 .before in
+    rw (sym (b3 .keeps-rules .ensures) ∙ not-false _ (b2 .if1 .left), c .reseeded .ensures)
 
 pub reseed-spec : {M : Type 1} → statement M
-reseed-spec = tie.close (tie.spec keeps-rules-requires returns new-requires returns-2)
+reseed-spec = tie.close (tie.spec keeps-rules-requires returns reseeded-requires returns-2)
