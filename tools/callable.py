@@ -1,14 +1,17 @@
 """The callable functions of the library crates (those with src/lib.rt), read from their text: check_proofs.py uses it.
 
 A function is callable where another crate can name it: `pub fn` in a file that a chain of `pub mod` opens from lib.rt, or whose name a
-`pub use` hands out; a method where its type is so; and each `extern "C"`, which the linker hands out wherever it stands.
-It reads text only: a contract that speaks of an answer may still say too little, which the edits of must-fail are for.
+`pub use` hands out; a method where its type is so, wherever the method stands; and each `extern "C"`, which the linker hands out.
+It reads text only, and does not read every form of Rattle: one that it would misread is a fault (`unread`), so that nothing is passed
+over. A contract that speaks of an answer may still say too little, which the edits of must-fail are for.
 """
 import re
 from dataclasses import dataclass
 from pathlib import Path
 
 WORD = re.compile(r'\b(fn|impl)\b')
+HIDDEN = re.compile(r"""//[^\n]*|\bb"(?:\\.|[^"\\])*"|\bb'(?:\\.[^']*|[^'])'""")
+NAMED = re.compile(r'\s*([\w:]+)::(?:(\w+)|\{((?:\s*\w+\s*,?)*)\})\s*;')  # one name, or several of one file, of a `pub use`
 CLAUSE = re.compile(r'\s*(requires|ensures)\b[^{]*(?=\{)')
 
 
@@ -46,6 +49,41 @@ def speaks_of_answer(clause):
     return bool(m) and m[1] != '_' and re.search(rf'(?<![\w.-]){m[1]}(?![\w-])', clause[m.end():]) is not None
 
 
+def plain(file):
+    """A file's text without its comments and without its byte strings and characters, each place as far along as before."""
+    return HIDDEN.sub(lambda m: ' ' * len(m[0]), file.read_text())
+
+
+def unread(file, src):
+    """The forms of a file that this reading does not follow."""
+    text, found = plain(file), []
+    if '/*' in text:
+        found.append('has a comment that is not a line\'s')
+    if re.search(r'\bpub\s+type\b', text):
+        found.append('hands out a type by another name (`pub type`)')
+    for m in re.finditer(r'\bpub\s+use\b', text):
+        named = NAMED.match(text, m.end())
+        path = [x for x in named[1].split('::') if x != 'crate'] if named else ['super']
+        if 'super' in path or 'self' in path:
+            found.append(f'has a `pub use` of another form: {" ".join(text[m.start():text.find(";", m.end())].split())}')
+            continue
+        used = module(src.joinpath(*path[:-1]), path[-1])
+        for name in handed(named) if used else ():
+            if not re.search(rf'\bpub\s+(?:fn|struct|enum|const)\s+{name}\b', plain(used)):
+                found.append(f'hands out {name}, which is not defined in {used.relative_to(src).as_posix()}')
+    return found
+
+
+def module(folder, name):
+    """The file of a module, where it is one of the crate's own."""
+    return next((f for f in (folder / f'{name}.rt', folder / name / 'mod.rt') if f.exists()), None)
+
+
+def handed(named):
+    """The names of a `pub use`."""
+    return {x.strip() for x in (named[2] or named[3]).split(',') if x.strip()}
+
+
 def closed(text, at, pair):
     """The place after the bracket that closes the one at `at`."""
     depth = 0
@@ -58,7 +96,7 @@ def closed(text, at, pair):
 
 def functions(file):
     """Each function of a file; a body is passed over."""
-    text = re.sub(r'//[^\n]*', lambda m: ' ' * len(m[0]), file.read_text())
+    text = plain(file)
     at, owner, owner_end = 0, '', 0
     while m := WORD.search(text, at):
         if m[1] == 'impl':
@@ -86,34 +124,42 @@ def functions(file):
 
 def opened(src):
     """The files of src/ that `pub mod` opens, and the names that `pub use` hands out, by file."""
-    def module(folder, name):
-        return next((f for f in (folder / f'{name}.rt', folder / name / 'mod.rt') if f.exists()), None)
-
     files, names, todo = {src / 'lib.rt'}, {}, [(src / 'lib.rt', src, True)]
     while todo:
         file, folder, is_open = todo.pop()
-        text = re.sub(r'//[^\n]*', '', file.read_text())
+        text = plain(file)
         for m in re.finditer(r'^\s*(pub\s+)?mod\s+(\w+)\s*;', text, re.M):
             inner = module(folder, m[2])
             if inner:
                 if is_open and m[1]:
                     files.add(inner)
                 todo.append((inner, folder / m[2], is_open and bool(m[1])))
-        for m in re.finditer(r'^\s*pub\s+use\s+([\w:]+)::(?:(\w+)|\{([^}]*)\})\s*;', text, re.M):
-            path = [x for x in m[1].split('::') if x not in ('crate', 'self')]
+        for m in re.finditer(r'\bpub\s+use\b', text):
+            named = NAMED.match(text, m.end())
+            path = [x for x in named[1].split('::') if x != 'crate'] if named else []
             used = module(src.joinpath(*path[:-1]), path[-1]) if path else None
             if is_open and used:
-                names.setdefault(used, set()).update(x.strip() for x in (m[2] or m[3]).split(','))
+                names.setdefault(used, set()).update(handed(named))
     return files, names
+
+
+def types(files, names):
+    """The types that another crate can name."""
+    found = set().union(*names.values()) if names else set()
+    for file in files:
+        found |= set(re.findall(r'\bpub\s+(?:struct|enum)\s+(\w+)', plain(file)))
+    return found
 
 
 def callable_functions(crates):
     """Each callable function of the crates in a folder."""
     for lib in sorted(crates.glob('*/src/lib.rt')):
         files, names = opened(lib.parent)
+        known = types(files, names)
         for file in sorted(lib.parent.glob('**/*.rt')):
             for f in functions(file):
-                if f.is_extern or f.is_pub and (file in files or (f.owner or f.name) in names.get(file, ())):
+                named = f.owner in known if f.owner else file in files or f.name in names.get(file, ())
+                if f.is_extern or f.is_pub and named:
                     yield f
 
 
@@ -130,10 +176,15 @@ def rows(text):
 
 def faults(crates, document):
     """How many functions are callable, and what is wrong with them or missing in the document."""
-    listed, wrong, count = rows(document), [], 0
+    listed, wrong, count, seen = rows(document), [], 0, {}
     for f in callable_functions(crates):
         count += 1
         where = f.file.relative_to(crates).as_posix()
         missing = [] if (where, f.name) in listed else ['has no row in docs/PROOFS.md, "Every callable function"']
+        if seen.setdefault((where, f.name), f.owner) != f.owner:
+            missing.append('is the name of two callable functions of the file, so that one row stands for both')
         wrong += [f'{where}: {f.name} {words}' for words in f.faults() + missing]
+    for lib in sorted(crates.glob('*/src/lib.rt')):
+        for file in sorted(lib.parent.glob('**/*.rt')):
+            wrong += [f'{file.relative_to(crates).as_posix()} {words}' for words in unread(file, lib.parent)]
     return count, wrong

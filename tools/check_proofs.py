@@ -1,7 +1,7 @@
 #!/usr/bin/env python3
-"""Checks what docs/PROOFS.md, docs/ARCHITECTURE.md and README.md cite, and what the callable functions promise.
+"""Checks what the documents cite, what the callable functions promise, and where definitions stand.
 
-    tools/check_proofs.py [FILE ..]     (the three where none is named)
+    tools/check_proofs.py [FILE ..]     (README.md, and of docs/ PROOFS, ARCHITECTURE, DECISIONS, DIFFERENCES and SPEED where none is named)
     tools/check_proofs.py --list        prints the callable functions, each with its file
     tools/check_proofs.py --try         shows that it finds each fault of a small crate with one of every kind (tools/callable_trial)
 
@@ -15,6 +15,8 @@ the root or from crates/.
 - Each must-fail edit of the crates must be cited.
 Each function of a library crate that another crate or C can call (tools/callable.py finds them) must have no `requires`, say something
 of its answer and of each `&mut` that it is lent, and have a row in docs/PROOFS.md under "Every callable function".
+Each definition that such a contract, the claim or the bench examples rest on must stand outside specs/inner, and each other one of the
+library crates inside (tools/believed.py).
 It prints how many names were checked, or a list of what is wrong, with status 1.
 """
 import re
@@ -24,6 +26,7 @@ import tempfile
 from pathlib import Path
 
 sys.path.insert(0, str(Path(__file__).resolve().parent))
+import believed
 import callable as functions
 
 ROOT = Path(__file__).resolve().parent.parent
@@ -130,13 +133,14 @@ class Check:
 def try_itself():
     """Checks the crate of the trial, whose file `expected` has what must be found, line by line."""
     trial = ROOT / 'tools/callable_trial'
-    # the sources are kept as .txt: no crate of crates.txt has them, and `rt ci` takes such a file of Rattle for a lost one
+    # the sources are kept as .txt: no crate of crates.txt has them, and `rt ci` takes such a file for a lost one
     with tempfile.TemporaryDirectory() as room:
-        for kept in trial.glob('crates/**/*.rt.txt'):
+        for kept in [*trial.glob('crates/**/*.txt'), trial / 'crates.txt.txt']:
             source = Path(room) / kept.relative_to(trial).with_suffix('')
             source.parent.mkdir(parents=True, exist_ok=True)
             shutil.copy(kept, source)
         count, found = functions.faults(Path(room) / 'crates', (trial / 'PROOFS.md').read_text())
+        found += believed.faults(Path(room) / 'crates')[1]
     wanted = (trial / 'expected').read_text().splitlines()
     words = [f'not found: {line}' for line in wanted if line not in found] + [f'found, but no fault: {line}' for line in found if line not in wanted]
     print('\n'.join([*words, f'trial: {count} callable functions, {len(found)} faults found, {len(words)} differences']))
@@ -153,17 +157,22 @@ def main():
     if any(a.startswith('-') for a in sys.argv[1:]):
         print(__doc__)
         sys.exit(0 if sys.argv[1:] == ['--help'] else 2)
-    docs = [Path(a).resolve() for a in sys.argv[1:]] or [ROOT / 'docs/PROOFS.md', ROOT / 'docs/ARCHITECTURE.md', ROOT / 'README.md']
+    named = [Path(a).resolve() for a in sys.argv[1:]]
+    docs = named or [ROOT / 'README.md', *(ROOT / f'docs/{name}.md' for name in ('PROOFS', 'ARCHITECTURE', 'DECISIONS', 'DIFFERENCES', 'SPEED'))]
+    for doc in docs:
+        if not doc.is_file():
+            sys.exit(f'{doc}: no such file')
     check = Check()
     for doc in docs:
         check.document(doc)
     check.left_out()
     count, faults = functions.faults(ROOT / 'crates', (ROOT / 'docs/PROOFS.md').read_text())
-    check.wrong += faults
+    definitions, misplaced = believed.faults(ROOT / 'crates')
+    check.wrong += faults + misplaced
     for line in check.wrong:
         print(line)
     cited = f'{check.names} names and {len(check.edits)} must-fail edits in {len(check.paths)} files and folders'
-    print(f'{cited} and {count} callable functions checked, {len(check.wrong)} wrong')
+    print(f'{cited}, {count} callable functions and {definitions} definitions to believe checked, {len(check.wrong)} wrong')
     sys.exit(1 if check.wrong else 0)
 
 
