@@ -77,7 +77,7 @@ struct sounder_voice {
     size_t k;          /* channels that are blended; 1 of a single voice */
     size_t m;          /* phases */
     size_t j;          /* bands */
-    size_t live_count; /* live bands, and below which they are; a single voice plays all j, whatever they say */
+    size_t live_count; /* how many bands are live: those that `live` lists first; a single voice plays all j, whatever they say */
     float sample_rate;
     uint8_t live[16];
     uint32_t gap; /* says nothing */

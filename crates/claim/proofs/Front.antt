@@ -5,7 +5,8 @@ use Prim.Native.Nat.{ℕ, zero, suc, _-_, _≤_, _<_}
 use native.Mathlib.Omega.{arith}
 use lib.ListN.{length, List·getD-append}
 use lib.Ieee.{Float, nan}
-use Rattle.player.specs.Bracket.{notAbove, neighbours, bracketOf, sidesOf, SidesIn, valueBetween}
+use Rattle.player.specs.Bracket.{notAbove, neighbours, bracketOf, sidesOf, valueBetween}
+use Rattle.player.specs.inner.Ranges.{SidesIn}
 use Rattle.player.specs.declared.pitch.bracket.Sides.{Sides}
 use Rattle.player.proofs.BracketLaws.{notAbove-in}
 use Rattle.claim.proofs.Sides.{sides-in}

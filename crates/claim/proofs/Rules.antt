@@ -13,7 +13,8 @@ use lib.Ieee.Scale.{finite}
 use borrow.Author.Tests.{eqb-false}
 use Rattle.float.specs.inner.Range.{Within}
 use Rattle.float.specs.F32.{quotient}
-use Rattle.player.specs.Phase.{Step, advanceOf}
+use Rattle.player.specs.Phase.{advanceOf}
+use Rattle.player.specs.inner.Ranges.{Step}
 use Rattle.voice.specs.Lists.{mapTo, steps}
 use Rattle.voice.specs.Input.{Call, partOf, frequencyAt, frequencyOk, cleaned}
 use Rattle.voice.specs.Voice.{pitches, stretches, phaseOk, pitchOk, stretchOk, countsOk, phasesOk, rulesOf, keepsRules, voiceOf, withState, firstState}

@@ -13,7 +13,8 @@ use Rattle.float.specs.F32.{quotient}
 use Rattle.player.specs.Share.{shareOf}
 use Rattle.player.specs.declared.pitch.bracket.Bracket.the-variants.{One}
 use Rattle.voice.specs.Voice.{pitchOk, stretchOk}
-use Rattle.player.specs.Bracket.{notAbove, neighbours, bracketOf, sidesOf, SidesIn, valueBetween}
+use Rattle.player.specs.Bracket.{notAbove, neighbours, bracketOf, sidesOf, valueBetween}
+use Rattle.player.specs.inner.Ranges.{SidesIn}
 use Rattle.player.proofs.BracketLaws.{notAbove-in, notAbove-le, above-it}
 use Rattle.player.proofs.PhaseLaws.{share-within}
 use Rattle.player.proofs.RangeLaws.{pitch-within, not-le, stretch-ok-within}

@@ -21,11 +21,11 @@ use Rattle.player.specs.Bracket.{bracketOf}
 abbrev pub emptyTable : ℕ → List ℕ
 emptyTable version = 0x4D ∷ 0x53 ∷ 0x43 ∷ 0x54 ∷ version ∷ 0 ∷ 0 ∷ 0 ∷ 0 ∷ 0 ∷ 0 ∷ 0 ∷ 0 ∷ 0 ∷ []
 
-abbrev pub three : List Float
-three = quotient 100 1 ∷ quotient 200 1 ∷ quotient 400 1 ∷ []
+abbrev pub threePitches : List Float
+threePitches = quotient 100 1 ∷ quotient 200 1 ∷ quotient 400 1 ∷ []
 
-abbrev pub four : List Float
-four = quotient 100 1 ∷ quotient 200 1 ∷ quotient 200 1 ∷ quotient 400 1 ∷ []
+abbrev pub fourPitches : List Float
+fourPitches = quotient 100 1 ∷ quotient 200 1 ∷ quotient 200 1 ∷ quotient 400 1 ∷ []
 
 pub record Bench : Type 0 where
   -- accepted, 0 entries, end 14
@@ -52,7 +52,9 @@ pub record Bench : Type 0 where
   -- seed 0 steps to 1015568748, read as 15868262 / 2^25
   pub p9 : (nextBipolar (newRng 0) .rng .state ≡ 1015568748) × HasValue (nextBipolar (newRng 0) .value) false 15868262 (2 ^ 25)
   -- pitches 100, 200, 400: 100 gives entry 0; 200 gives 1 and 2, t = 0; 300 the same pair, t = 0.5; 400 entry 2
-  pub p10 : (bracketOf three 3 (quotient 100 1) ≡ Bracket.One 0) × (bracketOf three 3 (quotient 200 1) ≡ Bracket.Between 1 2 (quotient 0 1))
-      × (bracketOf three 3 (quotient 300 1) ≡ Bracket.Between 1 2 (quotient 1 2)) × (bracketOf three 3 (quotient 400 1) ≡ Bracket.One 2)
+  pub p10 : (bracketOf threePitches 3 (quotient 100 1) ≡ Bracket.One 0)
+      × (bracketOf threePitches 3 (quotient 200 1) ≡ Bracket.Between 1 2 (quotient 0 1))
+      × (bracketOf threePitches 3 (quotient 300 1) ≡ Bracket.Between 1 2 (quotient 1 2))
+      × (bracketOf threePitches 3 (quotient 400 1) ≡ Bracket.One 2)
   -- pitches 100, 200, 200, 400 at 200: entries 2 and 3
-  pub p11 : bracketOf four 4 (quotient 200 1) ≡ Bracket.Between 2 3 (quotient 0 1)
+  pub p11 : bracketOf fourPitches 4 (quotient 200 1) ≡ Bracket.Between 2 3 (quotient 0 1)

@@ -4,12 +4,12 @@ use mathlib.Core.Bool.{true}
 use lib.Ieee.{Float}
 use Rattle.filters.specs.Biquad.{noiseBand}
 use Rattle.filters.specs.Rate.{rateOk}
-use Rattle.filters.specs.Band.{bandAt, bandCompensation}
+use Rattle.filters.specs.Band.{bandFrom, bandCompensation}
 
-pub band-coeffs : (raw rate : Float) → rateOk rate ≡ true → bandAt raw rate .coeffs ≡ noiseBand raw rate
-unfolding bandAt
+pub band-coeffs : (raw rate : Float) → rateOk rate ≡ true → bandFrom raw rate .coeffs ≡ noiseBand raw rate
+unfolding bandFrom
 band-coeffs raw rate h = rw h refl
 
-pub band-compensation : (raw rate : Float) → rateOk rate ≡ true → bandAt raw rate .compensation ≡ bandCompensation raw rate
-unfolding bandAt
+pub band-compensation : (raw rate : Float) → rateOk rate ≡ true → bandFrom raw rate .compensation ≡ bandCompensation raw rate
+unfolding bandFrom
 band-compensation raw rate h = rw h refl

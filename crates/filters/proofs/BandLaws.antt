@@ -16,8 +16,8 @@ use Rattle.float.specs.Order.{minimum, maximum}
 use Rattle.float.proofs.Within.{Holds, round-within, mul-is, mul-within, div-within, add-within, le→cross}
 use Rattle.float.proofs.Fraction.{not-lt}
 use Rattle.float.specs.F32.{_⊗_, quotient}
-use Rattle.filters.specs.Wave.{Phase}
-use Rattle.filters.specs.Rate.{Rate}
+use Rattle.filters.specs.inner.Ranges.{Phase}
+use Rattle.filters.specs.inner.Ranges.{Rate}
 use Rattle.filters.specs.Biquad.{turn, turnQuarter, centerOf}
 
 pow-le-back : (i j : ℕ) → 2 ^ i ≤ 2 ^ j → i ≤ j

@@ -18,7 +18,7 @@ use Rattle.float.specs.Sqrt.{sqrt}
 use Rattle.float.proofs.Within.{mul-is}
 use Rattle.float.proofs.Unique.{round-self}
 use Rattle.wave_table.specs.Wave.{quarterOf, waveOf}
-use Rattle.filters.specs.Rate.{Rate}
+use Rattle.filters.specs.inner.Ranges.{Rate}
 use Rattle.filters.specs.Biquad.{centerOf}
 use Rattle.filters.specs.Compensation.{pi, tauOf, compensationOf}
 use Rattle.filters.specs.Wave.{sineOf}

@@ -9,7 +9,8 @@ use lib.Ieee.{Float, binary32, round}
 use lib.Ieee.Fits.{and-l, and-r, mul-fits, sub-fits}
 use Rattle.float.specs.F32.{_⊕_, _⊖_, _⊗_, quotient}
 use Rattle.filters.specs.Biquad.{tickOf}
-use Rattle.filters.specs.Compensation.{impulse, plusZero, quiet, rungState, rungOutput, rungPower}
+use Rattle.filters.specs.Compensation.{impulse, rungState, rungOutput, rungPower}
+use Rattle.filters.specs.inner.Quiet.{isPlusZero, quiet}
 use Rattle.filters.proofs.ZeroLaws.{less-is, plus-zero-is}
 use Rattle.filters.specs.declared.biquad.BiquadCoeffs.{BiquadCoeffs}
 use Rattle.filters.specs.declared.biquad.BiquadState.{BiquadState}
@@ -32,8 +33,8 @@ unfolding quiet
 quiet-zeros c h =
     let x = c .b0 ⊗ quotient 0 1 in
     let y = c .b1 ⊗ quotient 0 1 in
-    let t : T (plusZero x && plusZero y) = subst T (sym h) tt in
-    (plus-zero-is x (mul-fits binary32 _ _) (and-l (plusZero x) (plusZero y) t), plus-zero-is y (mul-fits binary32 _ _) (and-r (plusZero x) (plusZero y) t))
+    let t : T (isPlusZero x && isPlusZero y) = subst T (sym h) tt in
+    (plus-zero-is x (mul-fits binary32 _ _) (and-l (isPlusZero x) (isPlusZero y) t), plus-zero-is y (mul-fits binary32 _ _) (and-r (isPlusZero x) (isPlusZero y) t))
 
 pub quiet-output : (c : BiquadCoeffs) (i : ℕ) (y z : Float) → quiet c ≡ true → 0 < i → y ≡ rungOutput c i → z ≡ rungState c i .z2 ⊕ quotient 0 1 → z ⊖ c .a1 ⊗ y ≡ rungOutput c (i + 1)
 unfolding rungState tickOf round

@@ -21,7 +21,8 @@ use Rattle.float.proofs.Bounds.{round-neg, mul-neg, int-within}
 use Rattle.float.proofs.Mag.{within-mag, int-mag, mul-mag, add-mag}
 use Rattle.float.specs.F32.{quotient}
 use Rattle.wave_table.specs.Wave.{quarterOf, signedQuarter, waveOf, Table}
-use Rattle.filters.specs.Wave.{Phase, placeOf, cellOf, restOf, lineOf, sineOf, quarterIn, signedIn, waveIn, lineIn, sineIn}
+use Rattle.filters.specs.Wave.{placeOf, cellOf, restOf, lineOf, sineOf, quarterIn, signedIn, waveIn, lineIn, sineIn}
+use Rattle.filters.specs.inner.Ranges.{Phase}
 use Rattle.wave_table.proofs.Every.{upTo-is}
 use Rattle.wave_table.proofs.Entries.{small}
 use Rattle.filters.proofs.Apart.{signed, plain-signed, neg-signed, add-apart}

@@ -14,7 +14,7 @@ use Rattle.float.specs.inner.Range.{Within}
 use Rattle.float.proofs.Within.{le→cross, cross→le}
 use Rattle.float.proofs.Bounds.{le-or-lt}
 use Rattle.float.specs.F32.{quotient}
-use Rattle.filters.specs.Rate.{Rate}
+use Rattle.filters.specs.inner.Ranges.{Rate}
 
 not-zero : (a : ℕ) → 0 < a → a ≡ 0 → ⊥
 not-zero a h e = lt-irrefl 0 (lt-of-lt-of-le h (le-of-eq e))

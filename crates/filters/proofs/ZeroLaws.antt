@@ -16,7 +16,7 @@ use Rattle.float.proofs.Within.{sub-is}
 use Rattle.float.proofs.Unique.{cross-unique, round-self}
 use Rattle.float.proofs.Bounds.{round-neg, sub-positive}
 use Rattle.float.specs.F32.{_⊕_, _⊖_, quotient}
-use Rattle.filters.specs.Compensation.{plusZero}
+use Rattle.filters.specs.inner.Quiet.{isPlusZero}
 
 -- the two zeros
 abbrev pub none : Bool → Float
@@ -282,7 +282,7 @@ less-is (fin s zero e) z h k = subst (λ (w : Float). Less w z) (sym (zero-is s 
 less-is (fin s (suc m) e) z h k = less-some s m e z h k
 
 -- ---- what the tests of +0 say
-pub plus-zero-is : (x : Float) → T (fits binary32 x) → T (plusZero x) → x ≡ quotient 0 1
+pub plus-zero-is : (x : Float) → T (fits binary32 x) → T (isPlusZero x) → x ≡ quotient 0 1
 unfolding round
 plus-zero-is nan h k = absurd k
 plus-zero-is (inf s) h k = absurd k
@@ -311,7 +311,7 @@ level-some s m e =
     lt-irrefl 0 (lt-of-lt-of-le (mul-pos (mul-pos (zero-lt-suc m) (up-pos e)) (lit< tt)) (le-of-eq (eqb→eq (suc m * up e * 1) (0 * 1 * down e) t ∙ zero-mul (down e)))))))
 
 -- x equals 0: its sign is that of 1 / x
-pub zero-sign : (x : Float) → eq x (none false) ≡ true → lt (none false) (div binary32 (fin false 1 (pos 0)) x) ≡ plusZero x
+pub zero-sign : (x : Float) → eq x (none false) ≡ true → lt (none false) (div binary32 (fin false 1 (pos 0)) x) ≡ isPlusZero x
 unfolding eq lt div
 zero-sign nan h = clash (sym h)
 zero-sign (inf s) h = clash (sym h)
@@ -319,7 +319,7 @@ zero-sign (fin true zero e) h = refl
 zero-sign (fin false zero e) h = refl
 zero-sign (fin s (suc m) e) h = clash (sym h ∙ level-some s m e)
 
-pub not-zero : (x : Float) → eq x (none false) ≡ false → false ≡ plusZero x
+pub not-zero : (x : Float) → eq x (none false) ≡ false → false ≡ isPlusZero x
 unfolding eq
 not-zero nan h = refl
 not-zero (inf s) h = refl

@@ -16,8 +16,8 @@ abbrev pub bandCompensation : Float → Float → Float
 bandCompensation raw rate = compensationOf (noisePowerGain (centerOf raw rate) (quotient 1 1) rate (noiseBand raw rate) .power)
 
 -- all zero at a rate that no voice can have
-unfoldable pub bandAt : Float → Float → Band
-bandAt raw rate =
+unfoldable pub bandFrom : Float → Float → Band
+bandFrom raw rate =
     cond (rateOk rate)
     (record { coeffs = noiseBand raw rate; compensation = bandCompensation raw rate })
     (record { coeffs = zeroCoeffs; compensation = quotient 0 1 })

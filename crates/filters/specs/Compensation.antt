@@ -1,8 +1,7 @@
 -- How loud white noise comes out of a band: an impulse goes in, the band is rung n times, and the squares of what comes out are summed.
 -- The compensation makes up for it.
 use Prim.Native.Nat.{ℕ, zero, suc, min, max}
-use mathlib.Core.Bool.{Bool, true, false, _&&_}
-use lib.Ieee.{Float, nan, inf, fin, toUnsigned}
+use lib.Ieee.{Float, toUnsigned}
 use Rattle.float.specs.Order.{maximum}
 use Rattle.float.specs.Sqrt.{sqrt}
 use Rattle.float.specs.F32.{_⊕_, _⊗_, _⊘_, quotient}
@@ -46,18 +45,6 @@ rungOutput c i = tickOf (rungState c i) (impulse i) c .y
 unfoldable pub rungPower : BiquadCoeffs → ℕ → Float
 rungPower c zero = quotient 0 1
 rungPower c (suc i) = rungPower c i ⊕ rungOutput c i ⊗ rungOutput c i
-
--- 0 with no sign
-abbrev pub plusZero : Float → Bool
-plusZero nan = false
-plusZero (inf s) = false
-plusZero (fin true m e) = false
-plusZero (fin false zero e) = true
-plusZero (fin false (suc m) e) = false
-
--- at an input of 0 the first two coefficients add +0, as those of a voice's band-pass do
-unfoldable pub quiet : BiquadCoeffs → Bool
-quiet c = plusZero (c .b0 ⊗ quotient 0 1) && plusZero (c .b1 ⊗ quotient 0 1)
 
 -- a band rung n times: the power, and the n rung
 abbrev pub rung : BiquadCoeffs → ℕ → NoisePower

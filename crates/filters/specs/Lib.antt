@@ -4,3 +4,4 @@ pub mod Rate
 pub mod Biquad
 pub mod Compensation
 pub mod Band
+pub mod inner

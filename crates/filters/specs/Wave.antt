@@ -7,14 +7,9 @@ use lib.ListN.{getD}
 use lib.Dec.{leb}
 use lib.IntN.{ℤ, pos, negsuc, negℤ, _-ℤ_}
 use lib.Ieee.{Float, fin, binary32, lt, ofInt, toUnsigned}
-use Rattle.float.specs.inner.Range.{StrictlyWithin}
 use Rattle.float.specs.Fraction.{fraction}
 use Rattle.wave_table.specs.Wave.{waveOf}
 use Rattle.float.specs.F32.{_⊕_, _⊗_, quotient}
-
--- p, a phase: turns, at least 0 and below 1
-abbrev pub Phase : Float → Type 0
-Phase p = StrictlyWithin 1 1 p
 
 -- q = p * 1024
 abbrev pub placeOf : Float → Float

@@ -1,8 +1,8 @@
 // A band of a voice, from its centre and the sample rate.
 ghost use mathlib.Core.Path.{_≡_};
-ghost use Rattle.filters.specs.Rate.{Rate};
+ghost use Rattle.filters.specs.inner.Ranges.{Rate};
 ghost use Rattle.filters.specs.Biquad.{noiseBand};
-ghost use Rattle.filters.specs.Band.{zeroCoeffs, bandCompensation, bandAt};
+ghost use Rattle.filters.specs.Band.{zeroCoeffs, bandCompensation, bandFrom};
 ghost use Rattle.filters.specs.declared.band.Band.{Band};
 use crate::biquad::BiquadCoeffs;
 use crate::biquad::band_center;
@@ -53,7 +53,7 @@ pub fn zero_coeffs() -> BiquadCoeffs
 
 // The band whose centre is raw, which is held to its limits; all zero at a rate that no voice can have.
 pub fn init_band(raw: f32, sample_rate: f32) -> Band
-    ensures { λ r. ⌜ r ≡ bandAt raw «sample_rate» ⌝ }
+    ensures { λ r. ⌜ r ≡ bandFrom raw «sample_rate» ⌝ }
 {
     let coeffs = zero_coeffs();
     if 8000.0 <= sample_rate {

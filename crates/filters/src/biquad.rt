@@ -1,9 +1,9 @@
 // Second-order band-pass filters: coefficients, memories, one sample.
 ghost use mathlib.Core.Path.{_≡_};
-ghost use Rattle.filters.specs.Wave.{Phase};
+ghost use Rattle.filters.specs.inner.Ranges.{Phase};
 ghost use Rattle.wave_table.specs.Wave.{Table};
 ghost use Rattle.filters.specs.Biquad.{turn, turnQuarter, paramsOf, normalized, bandPass, centerOf, noiseBand, cleared, tickOf};
-ghost use Rattle.filters.specs.Rate.{Rate};
+ghost use Rattle.filters.specs.inner.Ranges.{Rate};
 use crate::wave::sine;
 
 // Resonance of a noise band: low, so that the band is wide.

@@ -2,7 +2,8 @@
 ghost use mathlib.Core.Path.{_≡_};
 ghost use mathlib.Core.Bool.{true};
 ghost use Prim.Native.Nat.{_<_};
-ghost use Rattle.filters.specs.Compensation.{held, ringCount, plusZero, quiet, rung, noisePowerGain, compensationOf};
+ghost use Rattle.filters.specs.Compensation.{held, ringCount, rung, noisePowerGain, compensationOf};
+ghost use Rattle.filters.specs.inner.Quiet.{isPlusZero, quiet};
 use crate::biquad::BiquadCoeffs;
 use crate::biquad::BiquadState;
 use crate::whole::whole_part;
@@ -57,7 +58,7 @@ fn ring_by_ticks(c: BiquadCoeffs, n: u32) -> NoisePower
 
 // -0 equals 0, but 1 / -0 is an infinity below 0.
 fn is_plus_zero(x: f32) -> bool
-    ensures { λ r. ⌜ r ≡ plusZero x ⌝ }
+    ensures { λ r. ⌜ r ≡ isPlusZero x ⌝ }
 {
     if x == 0.0 {
         return 0.0 < 1.0 / x;

@@ -1,7 +1,8 @@
 // The wave that stands for a sine, one value at a time, over a table that is lent.
 ghost use mathlib.Core.Path.{_≡_};
 ghost use Prim.Native.Nat.{_≤_};
-ghost use Rattle.filters.specs.Wave.{Phase, quarterIn, signedIn, waveIn, lineIn, sineIn};
+ghost use Rattle.filters.specs.Wave.{quarterIn, signedIn, waveIn, lineIn, sineIn};
+ghost use Rattle.filters.specs.inner.Ranges.{Phase};
 use crate::whole::whole_part;
 
 // T(k), and 2^23 for an entry that is larger.

@@ -8,7 +8,8 @@ use lib.ListN.{length, getD, set, length-set}
 use lib.Seq.{getD-set-same, getD-set-other, ext-getD}
 use lib.Ieee.{Float, nan}
 use Rattle.float.specs.Sqrt.{sqrt}
-use Rattle.float.specs.Roots.{rooted, IsRoot, Kept, DoneUpTo, RootsIfKept}
+use Rattle.float.specs.Roots.{rooted}
+use Rattle.float.specs.inner.Roots.{IsRoot, Kept, DoneUpTo, RootsIfKept}
 use Rattle.float.proofs.Bounds.{le-or-lt}
 
 -- ---- the list by its places

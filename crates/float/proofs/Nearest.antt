@@ -16,7 +16,8 @@ use lib.Ieee.Positive.{num, den, den-pos, positive}
 use lib.Ieee.Scale.{round-same}
 use Rattle.float.specs.inner.Range.{plain}
 use Rattle.float.specs.Root.{root}
-use Rattle.float.specs.Sqrt.{smallest, normal, scaled, significand, rootBits, normalRoot, positiveRoot, sqrt}
+use Rattle.float.specs.Sqrt.{smallest, scaled, significand, rootBits, normalRoot, positiveRoot, sqrt}
+use Rattle.float.specs.inner.Normal.{normal}
 use Rattle.float.specs.Nearest.{NearestRoot}
 use Rattle.float.proofs.Within.{value-plain, value-cross, mul-is}
 use Rattle.float.proofs.Unique.{round-self}

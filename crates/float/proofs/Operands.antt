@@ -12,7 +12,8 @@ use lib.Ieee.Fits.{up-pos, and-l}
 use lib.Ieee.Positive.{num, positive}
 use lib.Ieee.Scale.{finite}
 use Rattle.float.specs.inner.Range.{plain}
-use Rattle.float.specs.Sqrt.{plusZero, smallest, normal, normalRoot, sqrt, positiveRoot}
+use Rattle.float.specs.Sqrt.{smallest, normalRoot, sqrt, positiveRoot}
+use Rattle.float.specs.inner.Normal.{plusZero, normal}
 use Rattle.float.proofs.Within.{lt→cross}
 use Rattle.float.proofs.Finite.{shown}
 use Rattle.float.proofs.Subnormal.{normal-from}

@@ -13,7 +13,8 @@ use lib.Ieee.Exact.{HasValue, odd-sign}
 use lib.Ieee.Fits.{and-l, and-r}
 use lib.Ieee.Positive.{num, den, den-pos}
 use Rattle.float.specs.inner.Range.{plain}
-use Rattle.float.specs.Sqrt.{smallest, normal}
+use Rattle.float.specs.Sqrt.{smallest}
+use Rattle.float.specs.inner.Normal.{normal}
 use Rattle.float.proofs.Bounds.{le-or-lt}
 use Rattle.float.proofs.Fraction.{not-lt}
 use Rattle.float.proofs.Within.{value-plain, value-cross, le→cross}

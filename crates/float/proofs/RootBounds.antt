@@ -13,7 +13,8 @@ use lib.Ieee.Exact.{HasValue}
 use lib.Ieee.Order.{transfer}
 use lib.Ieee.Positive.{num, den, den-pos, positive, positive-of-value, value-pos}
 use Rattle.float.specs.inner.Range.{plain, Within, AtLeast}
-use Rattle.float.specs.Sqrt.{plusZero, sqrt}
+use Rattle.float.specs.Sqrt.{sqrt}
+use Rattle.float.specs.inner.Normal.{plusZero}
 use Rattle.float.specs.Nearest.{NearestRoot}
 use Rattle.float.proofs.Within.{value-plain, value-cross, value-within}
 use Rattle.float.proofs.Bounds.{le-or-lt}

@@ -13,7 +13,8 @@ use lib.Ieee.Exact.{HasValue}
 use lib.Ieee.Order.{transfer}
 use lib.Ieee.Positive.{num, den, den-pos, positive}
 use Rattle.float.specs.inner.Range.{plain}
-use Rattle.float.specs.Sqrt.{normal, smallest}
+use Rattle.float.specs.Sqrt.{smallest}
+use Rattle.float.specs.inner.Normal.{normal}
 use Rattle.float.proofs.Within.{value-plain, value-cross, lt→cross}
 use Rattle.float.proofs.Scaled.{scale-value}
 use Rattle.float.proofs.Bounds.{count}

@@ -7,7 +7,8 @@ use mathlib.Core.Bool.{Bool, true, false, cond}
 use lib.Dec.{T, lit<}
 use lib.Ieee.{Float, nan, inf, fin, binary32, fits, lt, le, toBits, ofBits}
 use lib.Ieee.Bits.{ofBits-toBits}
-use Rattle.float.specs.Sqrt.{plusZero, smallest, scaled, significand, rootBits, normalRoot, sqrt}
+use Rattle.float.specs.Sqrt.{smallest, scaled, significand, rootBits, normalRoot, sqrt}
+use Rattle.float.specs.inner.Normal.{plusZero}
 use Rattle.float.proofs.RootLaws.{nearest-is, significand-small, quartered, is-significand}
 use Rattle.float.proofs.Patterns.{plain-pattern}
 use Rattle.float.proofs.Operands.{largest, normal-above, sqrt-normal}

@@ -1,29 +1,14 @@
 -- The square root of an `f32`, worked out by whole numbers. That it is the float nearest to the root is the law `sqrt-nearest`.
 use Prim.Native.Nat.{ℕ, zero, suc, _+_, _*_, _/_, _%_}
-use mathlib.Core.Bool.{Bool, true, false, not, cond, _&&_}
+use mathlib.Core.Bool.{true, false, cond}
 use lib.IntN.{pos, negsuc}
 use lib.Dec.{eqb}
 use lib.Ieee.{Float, nan, inf, fin, binary32, ofBits, toBits, lt, mul}
 use Rattle.float.specs.Root.{root}
 
--- finite and with no sign: 0 is, -0 is not
-abbrev pub plain : Float → Bool
-plain nan = false
-plain (inf s) = false
-plain (fin true m e) = false
-plain (fin false m e) = true
-
--- 0, with no sign
-abbrev pub plusZero : Float
-plusZero = fin false 0 (pos 0)
-
 -- the smallest normal float, 2 ^ -126
 abbrev pub smallest : Float
 smallest = fin false 1 (negsuc 125)
-
--- finite, with no sign, and not below that
-abbrev pub normal : Float → Bool
-normal x = plain x && not (lt x smallest)
 
 -- the 24 digits of a pattern's significand, times 2 ^ 26 or 2 ^ 25, whichever leaves an even exponent
 abbrev pub scaled : ℕ → ℕ

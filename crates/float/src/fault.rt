@@ -3,8 +3,9 @@ ghost use mathlib.Core.Path.{_≡_};
 ghost use mathlib.Core.Bool.{cond};
 ghost use Prim.Native.Nat.{_<_, _≤_};
 ghost use lib.Ieee.{binary32, toBits, lt};
-ghost use Rattle.float.specs.Sqrt.{plusZero, rootBits};
-ghost use Rattle.float.specs.Roots.{Kept, IsRoot};
+ghost use Rattle.float.specs.Sqrt.{rootBits};
+ghost use Rattle.float.specs.inner.Normal.{plusZero};
+ghost use Rattle.float.specs.inner.Roots.{Kept, IsRoot};
 use crate::root::quarter;
 
 // The pattern of x where it is above 0, else 0.

@@ -23,7 +23,7 @@ use Rattle.voice.specs.Voice.{pitchOk, stretchOk, phaseOk, pitchesAscend, bands
 use Rattle.filters.specs.Biquad.{noiseBand}
 use Rattle.filters.specs.Band.{zeroCoeffs}
 use Rattle.making.proofs.PutLaws.{length-mapped, getD-past, list-first, list-later, joinTo-at}
-use Rattle.making.specs.Making.{f32, all, sizesOk, valuesOk, keeps, insert, gathered, voiceEntries, channelCount, partialCoeff, isNonzero, presentFinite, mainlobeKey, noiseGainKey, partialReach, reachIn, most, phasesFor, phaseCount, isLive, liveBands, gainOf, coeffFloats, freshLists, freshVoice, Making, makeQuestion}
+use Rattle.making.specs.Making.{f32, all, sizesOk, valuesOk, keeps, insertByPitch, gathered, voiceEntries, channelCount, partialCoeff, isNonzero, presentFinite, mainlobeKey, noiseGainKey, partialReach, reachIn, most, phasesFor, phaseCount, isLive, liveBands, gainOf, coeffFloats, freshLists, freshVoice, Making, makeQuestion}
 use Rattle.voice.proofs.Loops.{both-true, length-joinTo}
 use Rattle.making.proofs.SortLaws.{all-insert, all-gathered, bands-few}
 use Rattle.making.proofs.MakingLaws.{Accepted, live-short}
@@ -96,31 +96,31 @@ ascends-head x y m h = both-true (le (pitch x) (pitch y)) (ascends (y ∷ m)) h 
 
 -- the first of the entries after an insertion: the new one or the old first
 first-is : (e x : PitchEntry) (l : List PitchEntry) → ascends (x ∷ l) ≡ true → le (pitch x) (pitch e) ≡ true
-    → (y : PitchEntry) (m : List PitchEntry) → insert e l ≡ y ∷ m → le (pitch x) (pitch y) ≡ true
-unfolding insert
+    → (y : PitchEntry) (m : List PitchEntry) → insertByPitch e l ≡ y ∷ m → le (pitch x) (pitch y) ≡ true
+unfolding insertByPitch
 first-is e x [] h k y m q = let p : e ≡ y = cc in rw (← p) k
 first-is e x (z ∷ l) h k y m q = go (lt (pitch e) (pitch z)) q
   where
-    go : (b : Bool) → cond b (e ∷ z ∷ l) (z ∷ insert e l) ≡ y ∷ m → le (pitch x) (pitch y) ≡ true
+    go : (b : Bool) → cond b (e ∷ z ∷ l) (z ∷ insertByPitch e l) ≡ y ∷ m → le (pitch x) (pitch y) ≡ true
     go true p = let w : e ≡ y = cc in rw (← w) k
     go false p = let w : z ≡ y = cc in rw (← w) (ascends-head x z l h)
 
-insert-ascends : (e : PitchEntry) (l : List PitchEntry) → pitchOk (pitch e) ≡ true → all (λ x. pitchOk (pitch x)) l ≡ true → ascends l ≡ true → ascends (insert e l) ≡ true
-unfolding insert all
+insert-ascends : (e : PitchEntry) (l : List PitchEntry) → pitchOk (pitch e) ≡ true → all (λ x. pitchOk (pitch x)) l ≡ true → ascends l ≡ true → ascends (insertByPitch e l) ≡ true
+unfolding insertByPitch all
 insert-ascends e [] p a h = ascends-cons e [] h (λ y m q. let z : _≡_ {A = ℕ} 0 1 = cc in absurd (omega arith))
 insert-ascends e (x ∷ l) p a h =
     let w = both-true (pitchOk (pitch x)) (all (λ x. pitchOk (pitch x)) l) a in
     go (lt (pitch e) (pitch x)) refl (w .0) (insert-ascends e l p (w .1) (ascends-tail x l h))
   where
-    go : (b : Bool) → lt (pitch e) (pitch x) ≡ b → pitchOk (pitch x) ≡ true → ascends (insert e l) ≡ true → ascends (cond b (e ∷ x ∷ l) (x ∷ insert e l)) ≡ true
+    go : (b : Bool) → lt (pitch e) (pitch x) ≡ b → pitchOk (pitch x) ≡ true → ascends (insertByPitch e l) ≡ true → ascends (cond b (e ∷ x ∷ l) (x ∷ insertByPitch e l)) ≡ true
     go true q o ih = ascends-cons e (x ∷ l) h (λ y m r.
         let s : x ≡ y = cc in
         rw (← s) (T-true (le (pitch e) (pitch x)) (lt-le (pitch e) (pitch x) (true-T (lt (pitch e) (pitch x)) q))))
-    go false q o ih = ascends-cons x (insert e l) ih (first-is e x l h (T-true (le (pitch x) (pitch e)) (finite-not-lt (pitch e) (pitch x) (pitch-finite (pitch e) p) (pitch-finite (pitch x) o) q)))
+    go false q o ih = ascends-cons x (insertByPitch e l) ih (first-is e x l h (T-true (le (pitch x) (pitch e)) (finite-not-lt (pitch e) (pitch x) (pitch-finite (pitch e) p) (pitch-finite (pitch x) o) q)))
 
 gathered-ascends : (k : Kind) (before es : List PitchEntry) → all (λ x. pitchOk (pitch x)) before ≡ true → all (λ x. pitchOk (pitch x)) es ≡ true → ascends before ≡ true
     → (all (λ x. pitchOk (pitch x)) (gathered k before es) ≡ true) × (ascends (gathered k before es) ≡ true)
-unfolding gathered all insert
+unfolding gathered all insertByPitch
 gathered-ascends k before [] p a h = (p, h)
 gathered-ascends k before (e ∷ es) p a h =
     let w = both-true (pitchOk (pitch e)) (all (λ x. pitchOk (pitch x)) es) a in
@@ -128,8 +128,8 @@ gathered-ascends k before (e ∷ es) p a h =
   where
     go : (b : Bool) → pitchOk (pitch e) ≡ true
         → ((l : List PitchEntry) → all (λ x. pitchOk (pitch x)) l ≡ true → ascends l ≡ true → (all (λ x. pitchOk (pitch x)) (gathered k l es) ≡ true) × (ascends (gathered k l es) ≡ true))
-        → (all (λ x. pitchOk (pitch x)) (gathered k (cond b (insert e before) before) es) ≡ true) × (ascends (gathered k (cond b (insert e before) before) es) ≡ true)
-    go true o ih = ih (insert e before) (all-insert (λ x. pitchOk (pitch x)) e before o p) (insert-ascends e before o p h)
+        → (all (λ x. pitchOk (pitch x)) (gathered k (cond b (insertByPitch e before) before) es) ≡ true) × (ascends (gathered k (cond b (insertByPitch e before) before) es) ≡ true)
+    go true o ih = ih (insertByPitch e before) (all-insert (λ x. pitchOk (pitch x)) e before o p) (insert-ascends e before o p h)
     go false o ih = ih before p h
 
 -- one place and the next
@@ -148,22 +148,22 @@ pitches-ascend l h = every-is _ (length l - 1) λ i k.
     rw (padded-at (quotient 0 1) nan 16 i (map pitch l) (omega arith), padded-at (quotient 0 1) nan 16 (i + 1) (map pitch l) (omega arith)) (ascends-at l i h (omega arith))
 
 -- ---- counts
-insert-length : (e : PitchEntry) (l : List PitchEntry) → length (insert e l) ≡ suc (length l)
-unfolding insert
+insert-length : (e : PitchEntry) (l : List PitchEntry) → length (insertByPitch e l) ≡ suc (length l)
+unfolding insertByPitch
 insert-length e [] = refl
 insert-length e (x ∷ l) = go (lt (pitch e) (pitch x)) (insert-length e l)
   where
-    go : (b : Bool) → length (insert e l) ≡ suc (length l) → length (cond b (e ∷ x ∷ l) (x ∷ insert e l)) ≡ suc (suc (length l))
+    go : (b : Bool) → length (insertByPitch e l) ≡ suc (length l) → length (cond b (e ∷ x ∷ l) (x ∷ insertByPitch e l)) ≡ suc (suc (length l))
     go true q = refl
     go false q = ap suc q
 
 gathered-length : (k : Kind) (before es : List PitchEntry) → length (gathered k before es) ≤ length before + length es
 unfolding gathered
 gathered-length k before [] = omega arith
-gathered-length k before (e ∷ es) = go (keeps k e) (gathered-length k (insert e before) es) (gathered-length k before es)
+gathered-length k before (e ∷ es) = go (keeps k e) (gathered-length k (insertByPitch e before) es) (gathered-length k before es)
   where
-    go : (b : Bool) → length (gathered k (insert e before) es) ≤ length (insert e before) + length es → length (gathered k before es) ≤ length before + length es
-        → length (gathered k (cond b (insert e before) before) es) ≤ length before + suc (length es)
+    go : (b : Bool) → length (gathered k (insertByPitch e before) es) ≤ length (insertByPitch e before) + length es → length (gathered k before es) ≤ length before + length es
+        → length (gathered k (cond b (insertByPitch e before) before) es) ≤ length before + suc (length es)
     go true p q = omega (arith, insert-length e before)
     go false p q = omega arith
 

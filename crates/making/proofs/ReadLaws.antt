@@ -17,7 +17,8 @@ use Rattle.table.specs.declared.error.CoeffTableCodecError.{CoeffTableCodecErro
 use Rattle.table.specs.Table.{PitchEntry, CoeffTable}
 use Rattle.table.specs.Answer.{refusalOf, readingParsed}
 use Rattle.table.specs.Decode.{decode}
-use Rattle.table.specs.Views.{viewed, ViewsRead}
+use Rattle.table.specs.Views.{ViewsRead}
+use Rattle.table.specs.inner.KeptViews.{viewed}
 use Rattle.table.proofs.ReadLaws.{accepted, refused-is}
 use Rattle.table.proofs.ViewsLaws.{views-lead}
 use Rattle.voice.specs.Question as question

@@ -42,14 +42,14 @@ keeps (Kind.Single c) e = hasChannel e c
 keeps Kind.Blend e = true
 
 -- an entry put among entries that ascend by pitch, after those of equal pitch
-unfoldable pub insert : PitchEntry → List PitchEntry → List PitchEntry
-insert e [] = e ∷ []
-insert e (x ∷ xs) = cond (lt (f32 (e .f0Hz)) (f32 (x .f0Hz))) (e ∷ x ∷ xs) (x ∷ insert e xs)
+unfoldable pub insertByPitch : PitchEntry → List PitchEntry → List PitchEntry
+insertByPitch e [] = e ∷ []
+insertByPitch e (x ∷ xs) = cond (lt (f32 (e .f0Hz)) (f32 (x .f0Hz))) (e ∷ x ∷ xs) (x ∷ insertByPitch e xs)
 
 -- the entries kept, sorted by pitch, equal pitches in table order; `before` are those already put
 unfoldable pub gathered : Kind → List PitchEntry → List PitchEntry → List PitchEntry
 gathered k before [] = before
-gathered k before (e ∷ es) = gathered k (cond (keeps k e) (insert e before) before) es
+gathered k before (e ∷ es) = gathered k (cond (keeps k e) (insertByPitch e before) before) es
 
 abbrev pub voiceEntries : Kind → List PitchEntry → List PitchEntry
 voiceEntries k es = gathered k [] es

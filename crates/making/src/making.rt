@@ -8,7 +8,8 @@ ghost use Rattle.table.specs.Desk.{bandCount};
 ghost use Rattle.voice.specs.Voice.{rateOk};
 ghost use Rattle.making.specs.Making.{all, sizesOk, kindNumber, kindChannel, freshVoice, blankVoice, making, makeOf};
 ghost use Rattle.making.specs.inner.Views.{viewed};
-ghost use Rattle.making.specs.Answer.{makeRefusal, madeOf, tableMade};
+ghost use Rattle.making.specs.Answer.{makeRefusal, madeOf};
+ghost use Rattle.making.specs.inner.Made.{tableMade};
 ghost use Rattle.voice.specs.Limits.{maxEntries};
 use crate::answer::MakeAnswer;
 use crate::answer::is_done;
@@ -28,6 +29,7 @@ use table::desk::Kind;
 use table::entry::EntryView;
 use table::read::Reading;
 use table::views::views_of;
+use voice::MAX_ENTRIES;
 use voice::Setting;
 use voice::State;
 use voice::Voice;
@@ -166,7 +168,7 @@ pub fn make(kind: Kind, image: &[u8], sample_rate: f32, centres: &[f32]) -> Made
     match reading {
         Reading::Refused(e) => refuse(MakeAnswer::Refused(e)),
         Reading::Accepted(count, _) => {
-            if 16 < count {
+            if MAX_ENTRIES < count {
                 return refuse(MakeAnswer::TooLarge);
             }
             let views = read.views;

@@ -13,7 +13,8 @@ use Rattle.float.specs.F32.{quotient}
 use Rattle.player.specs.inner.Columns.{Filled, FilledRows}
 use Rattle.voice.specs.Lists.{mapTo, steps, every}
 use Rattle.filters.specs.Wave.{sineOf}
-use Rattle.player.specs.Phase.{AllPhases, AllSteps, Phase, Step, advanceOf, partialFreq, stepOf}
+use Rattle.player.specs.Phase.{advanceOf, partialFreq, stepOf}
+use Rattle.player.specs.inner.Ranges.{AllPhases, AllSteps, Phase, Step}
 use Rattle.player.specs.Fade.{nyquistFade}
 use Rattle.voice.specs.Voice.{phaseOk, phasesOk, pitches, stretches, mainlobes, noiseGains}
 use Rattle.player.specs.Sound.{sidesAt, stepAt, fadeAt, partialRow, noiseRow, movedPhases, addSingle, partialTerm, partialSum}

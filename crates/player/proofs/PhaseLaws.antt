@@ -15,8 +15,9 @@ use Rattle.float.proofs.Within.{value-plain, value-cross, add-within, mul-withi
 use Rattle.float.proofs.Fraction.{fraction-value, widen}
 use Rattle.float.proofs.Bounds.{int-within, lerp-within, ratio-within}
 use Rattle.float.specs.F32.{_⊕_, _⊗_}
-use Rattle.player.specs.Phase.{Phase, Step, advanceOf, inverseOf, partialFreq, stepOf}
-use Rattle.filters.specs.Rate.{Rate}
+use Rattle.player.specs.Phase.{advanceOf, inverseOf, partialFreq, stepOf}
+use Rattle.player.specs.inner.Ranges.{Phase, Step}
+use Rattle.filters.specs.inner.Ranges.{Rate}
 use Rattle.player.specs.Share.{shareOf}
 
 -- the sum of a phase and a step

@@ -19,7 +19,8 @@ use Rattle.float.proofs.Within.{Holds, on-plain, le→cross, lt→cross, cross�
 use Rattle.float.proofs.Bounds.{le-or-lt, up-to-self, round-neg, mul-neg}
 use Rattle.float.proofs.Fraction.{widen}
 use Rattle.float.specs.F32.{_⊕_, quotient}
-use Rattle.player.specs.Phase.{Phase, Step, advanceOf, stepOf}
+use Rattle.player.specs.Phase.{advanceOf, stepOf}
+use Rattle.player.specs.inner.Ranges.{Phase, Step}
 use Rattle.voice.specs.Lists.{mapTo}
 use Rattle.voice.specs.Voice.{phaseOk, pitchOk, stretchOk, phasesOk}
 use Rattle.player.specs.Sound.{partialRow}

@@ -19,7 +19,7 @@ use Rattle.voice.specs.Lists.{upTo, every}
 use Rattle.player.specs.Phase.{inverseOf}
 use Rattle.voice.specs.Input.{partOf, frequencyOf, frequencyOk, frequenciesOk, cleaned}
 use Rattle.player.specs.inner.Passes.{EntriesFit, VoiceFits, FrequenciesFit}
-use Rattle.player.specs.Bracket.{SidesIn}
+use Rattle.player.specs.inner.Ranges.{SidesIn}
 use Rattle.voice.specs.Voice.{phaseOk, pitchOk, stretchOk, phasesOk, countsOk, entriesOk, liveOk, pitchesAscend, bandsAscend, keepsRules, pitches, stretches}
 use Rattle.player.specs.Sound.{sound, moved}
 use Rattle.player.specs.Block.{stateAt, channelOut}

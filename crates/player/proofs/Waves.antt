@@ -19,7 +19,7 @@ use Rattle.float.proofs.Compare.{below-within}
 use Rattle.float.proofs.Fraction.{whole-is, widen}
 use Rattle.float.proofs.Ints.{abs-in-float}
 use Rattle.player.specs.inner.Columns.{Filled}
-use Rattle.player.specs.Phase.{Phase, AllPhases}
+use Rattle.player.specs.inner.Ranges.{Phase, AllPhases}
 use Rattle.wave_table.specs.Wave.{Waves}
 use Rattle.filters.specs.Wave.{placeOf, cellOf, restOf, sineOf}
 use Rattle.player.specs.inner.Sines.{cellFloat, indexOf, cellStart, cellRise, lineAt, Cell, AllCells}

@@ -1,6 +1,6 @@
 -- The entries between which a frequency lies: one, or two neighbours with the share t between them.
 use mathlib.Core.Bool.{cond}
-use Prim.Native.Nat.{ℕ, zero, suc, _-_, _<_}
+use Prim.Native.Nat.{ℕ, zero, suc, _+_, _-_, _*_}
 use mathlib.Core.List.{List}
 use lib.ListN.{getD}
 use lib.Ieee.{Float, nan, le}
@@ -32,11 +32,10 @@ abbrev pub sidesOf : Bracket → Sides
 sidesOf (Bracket.One i) = record { lo = i; hi = i; t = quotient 0 1 }
 sidesOf (Bracket.Between lo hi t) = record { lo = lo; hi = hi; t = t }
 
--- both sides are entries
-pub record SidesIn (n : ℕ) (s : Sides) : Type 0 where
-  pub low : s .lo < n
-  pub high : s .hi < n
-
 -- a value between those of the two sides
 abbrev pub valueBetween : List Float → Sides → Float
 valueBetween l s = lerp (getD l (s .lo) nan) (getD l (s .hi) nan) (s .t)
+
+-- the same where each entry has n values: of those at its place p
+abbrev pub placeBetween : ℕ → List Float → Sides → ℕ → Float
+placeBetween n l s p = lerp (getD l (s .lo * n + p) nan) (getD l (s .hi * n + p) nan) (s .t)

@@ -5,7 +5,6 @@ use mathlib.Core.List.{List}
 use lib.ListN.{getD}
 use lib.Dec.{eqb}
 use lib.Ieee.{Float, nan, ne}
-use Rattle.float.specs.Lerp.{lerp}
 use Rattle.float.specs.Sqrt.{sqrt}
 use Rattle.float.specs.F32.{_⊕_, _⊗_, quotient}
 use Rattle.voice.specs.Lists.{mapTo, steps}
@@ -14,7 +13,7 @@ use Rattle.player.specs.Phase.{advanceOf, inverseOf, partialFreq, stepOf
 use Rattle.player.specs.Fade.{nyquistFade}
 use Rattle.filters.specs.Rng.{nextBipolar}
 use Rattle.filters.specs.Biquad.{tickOf}
-use Rattle.player.specs.Bracket.{bracketOf, sidesOf, valueBetween}
+use Rattle.player.specs.Bracket.{bracketOf, sidesOf, valueBetween, placeBetween}
 use Rattle.voice.specs.Limits.{maxPartials, maxBands, entryPartials, entryNoise}
 use Rattle.voice.specs.Voice.{pitches, stretches, mainlobes, noiseGains, compensations, bandAt, memoryAt, withMemory, stateOf}
 use Rattle.player.specs.declared.pitch.bracket.Sides.{Sides}
@@ -42,12 +41,10 @@ fadeAt v f0 i = nyquistFade (freqAt v f0 i) (v .set .«sample_rate» ⊗ quotien
 
 -- channel q's coefficient for partial i, and for band b, between the two sides
 abbrev pub partialRow : List Float → Sides → ℕ → ℕ → Float
-partialRow ps s q i =
-    lerp (getD ps (s .lo * entryPartials + (q * maxPartials + i)) nan) (getD ps (s .hi * entryPartials + (q * maxPartials + i)) nan) (s .t)
+partialRow ps s q i = placeBetween entryPartials ps s (q * maxPartials + i)
 
 abbrev pub noiseRow : List Float → Sides → ℕ → ℕ → Float
-noiseRow ns s q b =
-    lerp (getD ns (s .lo * entryNoise + (q * maxBands + b)) nan) (getD ns (s .hi * entryNoise + (q * maxBands + b)) nan) (s .t)
+noiseRow ns s q b = placeBetween entryNoise ns s (q * maxBands + b)
 
 -- ---- partials: every phase moves, and those with a coefficient sound
 unfoldable pub movedPhases : Voice → Float → List Float → List Float

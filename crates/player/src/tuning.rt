@@ -10,7 +10,7 @@ ghost use Rattle.float.specs.inner.Range.{Within};
 ghost use Rattle.voice.specs.Lists.{every};
 ghost use Rattle.player.specs.Phase.{partialFreq, stepOf};
 ghost use Rattle.player.specs.Fade.{nyquistFade};
-ghost use Rattle.player.specs.Bracket.{SidesIn};
+ghost use Rattle.player.specs.inner.Ranges.{SidesIn};
 ghost use Rattle.player.specs.inner.Columns.{LiveIn, Filled, FilledRows};
 ghost use Rattle.voice.specs.Voice.{pitchOk, stretchOk};
 ghost use Rattle.player.specs.Sound.{partialRow};

@@ -9,8 +9,8 @@ use Rattle.wire.proofs.Many.{whole, stand-go, stand-no, stand-end}
 use Rattle.table.specs.declared.desk.Kind.{Kind}
 use Rattle.table.specs.Table.{PitchEntry, metadataValue}
 use Rattle.table.specs.Image.{entry}
-use Rattle.table.specs.View.{entryList}
-use Rattle.table.specs.Desk.{bandsOf, bandCount, orElse, firstValue, bitsOf}
+use Rattle.table.specs.inner.Entry.{entryList}
+use Rattle.table.specs.Desk.{bandsOf, bandCount, valueOr, firstValue, bitsOf}
 
 pub bands-go : (k : Kind) (best : ℕ) (s : List ℕ) (i n at next : ℕ) (e : PitchEntry) → i < n → entry i s at ≡ ok e next
     → max best (bandCount k (standing entry i (n - i) s at)) ≡ max (max best (bandsOf k e)) (bandCount k (standing entry (i + 1) (n - (i + 1)) s next))
@@ -38,7 +38,7 @@ pub first-empty : (key : List ℕ) (d n : ℕ) (s : List ℕ) (at : ℕ) → n �
 first-empty key d n s at z = first-cons key d n s at [] (stand-end entry s 0 n at (omega arith))
 
 pub first-go : (key : List ℕ) (d n : ℕ) (s : List ℕ) (at next : ℕ) (e : PitchEntry) → (n ≡ 0 → ⊥) → entry 0 s at ≡ ok e next
-    → firstValue key d (entryList n s at) ≡ orElse (metadataValue key (e .metadata)) d
+    → firstValue key d (entryList n s at) ≡ valueOr (metadataValue key (e .metadata)) d
 first-go key d n s at next e z g = first-cons key d n s at (e ∷ standing entry (0 + 1) (n - (0 + 1)) s next) (stand-go entry s 0 n at next e (omega arith) g)
 
 pub first-no : (key : List ℕ) (d n : ℕ) (s : List ℕ) (at : ℕ) (r : Refusal) → (n ≡ 0 → ⊥) → entry 0 s at ≡ refused r → firstValue key d (entryList n s at) ≡ d

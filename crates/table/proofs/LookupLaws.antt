@@ -9,7 +9,8 @@ use Rattle.wire.proofs.Many.{stand-go}
 use Rattle.table.specs.Table.{CoeffTable, PitchEntry}
 use Rattle.table.specs.Image.{Header, header, entry}
 use Rattle.table.specs.Decode.{decode}
-use Rattle.table.specs.View.{entryList, viewOf}
+use Rattle.table.specs.View.{viewOf}
+use Rattle.table.specs.inner.Entry.{entryList}
 use Rattle.table.specs.Answer.{counts}
 use Rattle.table.specs.Lookup.{viewFrom, viewOfIndex}
 use Rattle.table.proofs.SizeLaws.{entry-end}

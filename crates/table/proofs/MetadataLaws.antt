@@ -10,7 +10,7 @@ use Rattle.wire.proofs.Many.{many-go, many-stand, stand-go}
 use Rattle.table.specs.Table.{Pair, same, metadataValue}
 use Rattle.table.specs.Image.{pair, pairs}
 use Rattle.table.specs.View.{pairList}
-use Rattle.table.specs.Answer.{skips}
+use Rattle.table.specs.inner.Answers.{skips}
 
 -- past the pairs, by what stands at the first
 skips-cons : (q : Pair) (r : Parsed (List Pair)) → skips (then r (λ ps e. ok (q ∷ ps) e)) ≡ skips r

@@ -13,9 +13,9 @@ use Rattle.table.specs.declared.span.Baseline.{Baseline}
 use Rattle.table.specs.Table.{CoeffTable, PitchEntry}
 use Rattle.table.specs.Image.{Header, header, entry, entries}
 use Rattle.table.specs.Span.{Verdict, agreed, broken, consistent, ruled}
-use Rattle.table.specs.inner.Baseline.{verdictFrom, concluded, outcome}
+use Rattle.table.specs.inner.Baseline.{verdictFrom, concluded, answerFrom}
 use Rattle.table.specs.Decode.{decode}
-use Rattle.table.specs.View.{entryList}
+use Rattle.table.specs.inner.Entry.{entryList}
 use Rattle.table.specs.Answer.{counts}
 
 abbrev tableFrom : Header → List PitchEntry → CoeffTable
@@ -26,8 +26,8 @@ counts-ruled : (v : Verdict) (t : CoeffTable) (at : ℕ) → counts (then (ruled
 counts-ruled agreed t at = refl
 counts-ruled (broken r) t at = refl
 
-counts-entries : (h : Header) (r : Parsed (List PitchEntry)) → counts (then r (λ es at. then (ruled (consistent es) at) (λ b e. ok (tableFrom h es) e))) ≡ outcome Baseline.Start 0 r
-unfolding outcome verdictFrom
+counts-entries : (h : Header) (r : Parsed (List PitchEntry)) → counts (then r (λ es at. then (ruled (consistent es) at) (λ b e. ok (tableFrom h es) e))) ≡ answerFrom Baseline.Start 0 r
+unfolding answerFrom verdictFrom
 counts-entries h (ok es at) =
     counts-ruled (consistent es) (tableFrom h es) at
     ∙ ap (λ (n : ℕ). concluded (consistent es) n at) (sym (zero-add (length es)))
@@ -41,7 +41,7 @@ pub read-no : (s : List ℕ) (r : Refusal) → length s ≤ 65536 → header s 0
 unfolding decode
 read-no s r h g = rw (le-leb (length s) 65536 h, g) refl
 
-pub read-go : (s : List ℕ) (d : Header) (at : ℕ) → length s ≤ 65536 → header s 0 ≡ ok d at → counts (decode s) ≡ outcome Baseline.Start 0 (entries (d .count) s at)
+pub read-go : (s : List ℕ) (d : Header) (at : ℕ) → length s ≤ 65536 → header s 0 ≡ ok d at → counts (decode s) ≡ answerFrom Baseline.Start 0 (entries (d .count) s at)
 unfolding decode
 read-go s d at h g = rw (le-leb (length s) 65536 h, g) (counts-entries d (entries (d .count) s at))
 

@@ -15,7 +15,7 @@ use Rattle.table.specs.declared.span.Baseline.{Baseline}
 use Rattle.table.specs.Table.{PitchEntry}
 use Rattle.table.specs.Image.{entry}
 use Rattle.table.specs.Span.{spanOf, floatEq, inconsistent, agree}
-use Rattle.table.specs.inner.Baseline.{judged, verdictFrom, concluded, outcome}
+use Rattle.table.specs.inner.Baseline.{judged, verdictFrom, concluded, answerFrom}
 
 true-false : false ≡ true → ⊥
 true-false h = let z : _≡_ {A = ℕ} 0 1 = cc in omega arith
@@ -67,21 +67,21 @@ pub verdict-step : (j : Baseline) (i : ℕ) (e : PitchEntry) (es : List PitchEnt
 verdict-step j i e es = judged-span j i (spanOf e) e es refl
 
 -- the entries from an index on, by what stands at the first
-outcome-cons : (j : Baseline) (i : ℕ) (e : PitchEntry) (r : Parsed (List PitchEntry)) → outcome j i (then r (λ es at. ok (e ∷ es) at)) ≡ outcome (judged j i (spanOf e)) (i + 1) r
-unfolding outcome
+outcome-cons : (j : Baseline) (i : ℕ) (e : PitchEntry) (r : Parsed (List PitchEntry)) → answerFrom j i (then r (λ es at. ok (e ∷ es) at)) ≡ answerFrom (judged j i (spanOf e)) (i + 1) r
+unfolding answerFrom
 outcome-cons j i e (ok es at) =
     let p : i + suc (length es) ≡ i + 1 + length es = omega arith in
     rw (verdict-step j i e es, p) refl
 outcome-cons j i e (refused r) = refl
 
 pub entries-go : (j : Baseline) (s : List ℕ) (i n at next : ℕ) (e : PitchEntry) → i < n → entry i s at ≡ ok e next
-    → outcome j i (many entry i (n - i) s at) ≡ outcome (judged j i (spanOf e)) (i + 1) (many entry (i + 1) (n - (i + 1)) s next)
-entries-go j s i n at next e h g = ap (outcome j i) (many-go entry s i n at next e h g) ∙ outcome-cons j i e (many entry (i + 1) (n - (i + 1)) s next)
+    → answerFrom j i (many entry i (n - i) s at) ≡ answerFrom (judged j i (spanOf e)) (i + 1) (many entry (i + 1) (n - (i + 1)) s next)
+entries-go j s i n at next e h g = ap (answerFrom j i) (many-go entry s i n at next e h g) ∙ outcome-cons j i e (many entry (i + 1) (n - (i + 1)) s next)
 
-pub entries-no : (j : Baseline) (s : List ℕ) (i n at : ℕ) (r : Refusal) → i < n → entry i s at ≡ refused r → outcome j i (many entry i (n - i) s at) ≡ refused r
-unfolding outcome
+pub entries-no : (j : Baseline) (s : List ℕ) (i n at : ℕ) (r : Refusal) → i < n → entry i s at ≡ refused r → answerFrom j i (many entry i (n - i) s at) ≡ refused r
+unfolding answerFrom
 entries-no j s i n at r h g = rw (many-no entry s i n at r h g) refl
 
-pub entries-end : (j : Baseline) (s : List ℕ) (i n at : ℕ) → i ≤ n → n ≤ i → outcome j i (many entry i (n - i) s at) ≡ concluded (verdictFrom j n []) n at
-unfolding outcome
+pub entries-end : (j : Baseline) (s : List ℕ) (i n at : ℕ) → i ≤ n → n ≤ i → answerFrom j i (many entry i (n - i) s at) ≡ concluded (verdictFrom j n []) n at
+unfolding answerFrom
 entries-end j s i n at h g = let q : i + 0 ≡ n = omega arith in let p : i ≡ n = omega arith in rw (many-end entry s i n at g, q, p) refl

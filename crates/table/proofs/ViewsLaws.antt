@@ -14,8 +14,10 @@ use Rattle.table.specs.Size.{entrySize}
 use Rattle.table.specs.Image.{Header, header, entry, entries}
 use Rattle.table.specs.Span.{consistent, ruled}
 use Rattle.table.specs.Decode.{decode}
-use Rattle.table.specs.View.{entryAt, entryList, viewOf}
-use Rattle.table.specs.Views.{viewed, noView, viewsFrom, viewsOf}
+use Rattle.table.specs.View.{entryAt, viewOf}
+use Rattle.table.specs.inner.Entry.{entryList}
+use Rattle.table.specs.Views.{noView, viewsFrom, viewsOf}
+use Rattle.table.specs.inner.KeptViews.{viewed}
 use Rattle.table.specs.inner.KeptViews.{keptViews}
 use Rattle.table.specs.Answer.{counts}
 use Rattle.table.proofs.SizeLaws.{entry-is, entry-end}

@@ -14,7 +14,7 @@ use Rattle.wire.proofs.Apart.{cursor}
 use Rattle.table.specs.declared.entry.Counted.{Counted}
 use Rattle.table.specs.Image.{counted}
 use Rattle.table.specs.View.{wordList}
-use Rattle.table.specs.Answer.{placedCount}
+use Rattle.table.specs.inner.Answers.{placedCount}
 
 pub length-words : (s : List ℕ) (at n : ℕ) → length (wordList s at n) ≡ n
 unfolding wordList

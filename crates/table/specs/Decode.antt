@@ -12,10 +12,13 @@ abbrev pub imageLength : Parser ℕ
 imageLength s at = ok (length s) at
 
 -- question 1: is the image at most 65,536 bytes?
+abbrev pub maxImage : ℕ
+maxImage = 65536
+
 abbrev pub table : Parser CoeffTable
 table = do
   z ← imageLength
-  require (leb z 65536) (refusal 1 0 0)
+  require (leb z maxImage) (refusal 1 0 0)
   h ← header
   es ← entries (h .count)
   askSpans es

@@ -24,14 +24,14 @@ bandCount k [] = 0
 bandCount k (e ∷ es) = max (bandsOf k e) (bandCount k es)
 
 -- a value, or a default
-abbrev pub orElse : Option ℕ → ℕ → ℕ
-orElse (some v) d = v
-orElse none d = d
+abbrev pub valueOr : Option ℕ → ℕ → ℕ
+valueOr (some v) d = v
+valueOr none d = d
 
 -- a key's value in the table's first entry, or a default
 abbrev pub firstValue : List ℕ → ℕ → List PitchEntry → ℕ
 firstValue key d [] = d
-firstValue key d (e ∷ es) = orElse (metadataValue key (e .metadata)) d
+firstValue key d (e ∷ es) = valueOr (metadataValue key (e .metadata)) d
 
 -- the span: the first entry's, or 80 and 12,000, as 32-bit patterns
 unfoldable pub bitsOf : ℕ → ℕ

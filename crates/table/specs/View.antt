@@ -9,19 +9,16 @@ use Rattle.table.specs.declared.entry.EntryView.{EntryView}
 use Rattle.table.specs.declared.entry.EntryRead.{EntryRead}
 use Rattle.table.specs.Table.{Pair, PitchEntry, mPartials}
 use Rattle.table.specs.Size.{entrySize}
-use Rattle.table.specs.Image.{pair, entry}
+use Rattle.table.specs.Image.{pair}
 
 -- the n 32-bit numbers that stand at a position
 unfoldable pub wordList : List ℕ → ℕ → ℕ → List ℕ
 wordList s at zero = []
 wordList s at (suc n) = le32 s at ∷ wordList s (at + 4) n
 
--- the pairs and the entries that stand at a position, up to the first that cannot be read
+-- the pairs that stand at a position, up to the first that cannot be read
 abbrev pub pairList : ℕ → List ℕ → ℕ → List Pair
 pairList n s at = standing (λ i. pair) 0 n s at
-
-abbrev pub entryList : ℕ → List ℕ → ℕ → List PitchEntry
-entryList n s at = standing entry 0 n s at
 
 -- the entry that a view is of
 abbrev pub entryAt : List ℕ → EntryView → PitchEntry

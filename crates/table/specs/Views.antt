@@ -1,15 +1,15 @@
 -- The entries of a table held as their views.
 use Prim.Native.Nat.{ℕ, zero, suc, _+_}
 use mathlib.Core.Path.{_≡_}
-use mathlib.Core.List.{List, [], _∷_, map}
-use lib.ListN.{length, take, replicate}
+use mathlib.Core.List.{List, [], _∷_}
+use lib.ListN.{length, replicate}
 use Rattle.wire.specs.Parse.{Parsed, ok, refused}
 use Rattle.table.specs.declared.entry.EntryView.{EntryView}
 use Rattle.table.specs.declared.views.Views.{Views}
 use Rattle.table.specs.Table.{PitchEntry, CoeffTable}
 use Rattle.table.specs.Size.{entrySize}
 use Rattle.table.specs.Decode.{decode}
-use Rattle.table.specs.View.{entryAt, viewOf}
+use Rattle.table.specs.View.{viewOf}
 use Rattle.table.specs.Answer.{readingParsed, counts}
 
 -- a view of nothing: all 0; it is also what a view past the end of a list is
@@ -28,20 +28,20 @@ noView = record {
   end = 0;
 }
 
--- the entries that the first n views are of
-abbrev pub viewed : List ℕ → List EntryView → ℕ → List PitchEntry
-viewed s views n = map (entryAt s) (take n views)
-
 -- the views of the first n entries of those that stand from a position on, each at the end of the one before it; past the last, of nothing
 unfoldable pub viewsFrom : ℕ → ℕ → List PitchEntry → List EntryView
 viewsFrom n at [] = replicate n noView
 viewsFrom zero at (e ∷ es) = []
 viewsFrom (suc n) at (e ∷ es) = viewOf at e ∷ viewsFrom n (at + entrySize e) es
 
--- the 16 views of an image: of its table's first 16 entries; where it is refused, of nothing
+-- a reading keeps 16 views
+abbrev pub maxViews : ℕ
+maxViews = 16
+
+-- the views of an image: of its table's first 16 entries; where it is refused, of nothing
 abbrev pub viewsOf : Parsed CoeffTable → List EntryView
-viewsOf (ok t end) = viewsFrom 16 (14 + length (t .name)) (t .entries)
-viewsOf (refused r) = replicate 16 noView
+viewsOf (ok t end) = viewsFrom maxViews (14 + length (t .name)) (t .entries)
+viewsOf (refused r) = replicate maxViews noView
 
 -- a reading that keeps views: the answer to the image, and its views
 pub record ViewsRead (s : List ℕ) (r : Views) : Type 0 where

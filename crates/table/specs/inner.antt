@@ -1,4 +1,5 @@
 -- What only private functions cite: none of it is to be believed.
+pub mod Answers
 pub mod Baseline
 pub mod Entry
 pub mod Header

@@ -1,7 +1,7 @@
 // The header of an image that is accepted: what is looked up in an image starts here.
 ghost use mathlib.Core.Path.{_≡_};
 ghost use Rattle.table.specs.Decode.{decode};
-ghost use Rattle.table.specs.Answer.{headerParsed};
+ghost use Rattle.table.specs.inner.Answers.{headerParsed};
 ghost use Rattle.table.specs.inner.Header.{NamePlaced, headerIn};
 use crate::header::HeaderRead;
 use crate::header::header_at;

@@ -3,9 +3,10 @@ ghost use mathlib.Core.Path.{_≡_};
 ghost use Prim.Native.Nat.{ℕ, max};
 ghost use mathlib.Core.List.{List};
 ghost use Rattle.table.specs.Decode.{decode};
-ghost use Rattle.table.specs.View.{entryAt, entryList};
+ghost use Rattle.table.specs.View.{entryAt};
+ghost use Rattle.table.specs.inner.Entry.{entryList};
 ghost use Rattle.table.specs.Answer.{foundBits};
-ghost use Rattle.table.specs.Desk.{bandsOf, bandCount, orElse, firstValue, deskOf, deskOutcome, deskAnswer};
+ghost use Rattle.table.specs.Desk.{bandsOf, bandCount, valueOr, firstValue, deskOf, deskOutcome, deskAnswer};
 use crate::accepted::table_header;
 use crate::entry::EntryRead;
 use crate::entry::EntryView;
@@ -74,7 +75,7 @@ fn bands_among(s: &[u8], c: Cursor, n: usize, kind: Kind) -> u32
 }
 
 fn or_else(f: Found, other: u32) -> u32
-    ensures { λ r. ⌜ r ≡ orElse (foundBits f) other ⌝ }
+    ensures { λ r. ⌜ r ≡ valueOr (foundBits f) other ⌝ }
 {
     match f {
         Found::Bits(v) => v,

@@ -1,7 +1,7 @@
 // What stands before the entries: mark, version, name and entry count.
 ghost use mathlib.Core.Path.{_≡_};
 ghost use Rattle.table.specs.Image.{header};
-ghost use Rattle.table.specs.Answer.{headerParsed};
+ghost use Rattle.table.specs.inner.Answers.{headerParsed};
 ghost use Rattle.table.specs.inner.Header.{version, versionParsed, NamePlaced};
 use crate::bytes::part_of;
 use crate::bytes::same_bytes;

@@ -5,6 +5,7 @@ pub mod desk;
 pub mod entry;
 pub mod error;
 mod header;
+mod limits;
 pub mod lookup;
 mod metadata;
 mod span;

@@ -1,7 +1,7 @@
 // The entry with an index.
 ghost use mathlib.Core.Path.{_≡_};
 ghost use Rattle.table.specs.Decode.{decode};
-ghost use Rattle.table.specs.View.{entryList};
+ghost use Rattle.table.specs.inner.Entry.{entryList};
 ghost use Rattle.table.specs.Lookup.{viewFrom, viewOfIndex, foundView};
 use crate::accepted::table_header;
 use crate::entry::EntryRead;

@@ -5,7 +5,7 @@ ghost use Rattle.table.specs.Image.{entries};
 ghost use Rattle.table.specs.Decode.{decode, nameOf};
 ghost use Rattle.table.specs.Name.{StartsAt, nameStart};
 ghost use Rattle.table.specs.Answer.{readingParsed, counts};
-ghost use Rattle.table.specs.inner.Baseline.{outcome};
+ghost use Rattle.table.specs.inner.Baseline.{answerFrom};
 use crate::accepted::table_header;
 use crate::bytes::part_of;
 use crate::entry::EntryRead;
@@ -13,6 +13,7 @@ use crate::entry::entry_at;
 use crate::error::CoeffTableCodecError;
 use crate::header::HeaderRead;
 use crate::header::header_at;
+use crate::limits::MAX_IMAGE;
 use crate::span::Baseline;
 use crate::span::conclude;
 use crate::span::judge;
@@ -27,7 +28,7 @@ pub enum Reading {
 
 // The n entries at a cursor, and question 7 of all. The loop ends at the first entry that is not there, however large n is.
 fn entries_at(s: &[u8], c: Cursor, n: usize) -> Reading
-    ensures { λ r. ⌜ readingParsed r ≡ outcome Baseline.Start 0 (entries n (now (s .entry)) (c .at)) ⌝ }
+    ensures { λ r. ⌜ readingParsed r ≡ answerFrom Baseline.Start 0 (entries n (now (s .entry)) (c .at)) ⌝ }
 {
     let mut d = c;
     let mut i = 0;
@@ -51,7 +52,7 @@ fn entries_at(s: &[u8], c: Cursor, n: usize) -> Reading
 pub fn from_bytes(image: &[u8]) -> Reading
     ensures { λ r. ⌜ readingParsed r ≡ counts (decode (now (image .entry))) ⌝ }
 {
-    if 65536 < image.len() {
+    if MAX_IMAGE < image.len() {
         return Reading::Refused(CoeffTableCodecError::TooLong);
     }
     match header_at(image) {

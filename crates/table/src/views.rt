@@ -3,11 +3,11 @@ ghost use mathlib.Core.Path.{_≡_};
 ghost use lib.ListN.{replicate};
 ghost use Rattle.table.specs.declared.span.Baseline.{Baseline};
 ghost use Rattle.table.specs.Image.{entries};
-ghost use Rattle.table.specs.View.{entryList};
-ghost use Rattle.table.specs.Views.{noView, ViewsRead};
+ghost use Rattle.table.specs.inner.Entry.{entryList};
+ghost use Rattle.table.specs.Views.{noView, maxViews, ViewsRead};
 ghost use Rattle.table.specs.inner.KeptViews.{keptViews};
 ghost use Rattle.table.specs.Answer.{refusalOf, readingParsed};
-ghost use Rattle.table.specs.inner.Baseline.{outcome};
+ghost use Rattle.table.specs.inner.Baseline.{answerFrom};
 ghost use Rattle.wire.specs.Parse.{refused};
 use crate::entry::EntryRead;
 use crate::entry::EntryView;
@@ -15,6 +15,8 @@ use crate::entry::entry_at;
 use crate::error::CoeffTableCodecError;
 use crate::header::HeaderRead;
 use crate::header::header_at;
+use crate::limits::MAX_IMAGE;
+use crate::limits::MAX_VIEWS;
 use crate::read::Reading;
 use crate::span::Baseline;
 use crate::span::conclude;
@@ -48,7 +50,7 @@ pub fn no_view() -> EntryView
 }
 
 fn no_views(e: CoeffTableCodecError) -> Views
-    ensures { λ r. ⌜ (readingParsed (r .reading) ≡ refused (refusalOf e)) × (r .views ≡ replicate 16 noView) ⌝ }
+    ensures { λ r. ⌜ (readingParsed (r .reading) ≡ refused (refusalOf e)) × (r .views ≡ replicate maxViews noView) ⌝ }
 {
     let blank = no_view();
     Views {
@@ -59,7 +61,7 @@ fn no_views(e: CoeffTableCodecError) -> Views
 
 // The n entries at a cursor, and question 7 of all, as `entries_at` reads them; the views of the first 16 are kept.
 fn views_at(s: &[u8], c: Cursor, n: usize) -> Views
-    ensures reading { λ r. ⌜ readingParsed (r .reading) ≡ outcome Baseline.Start 0 (entries n (now (s .entry)) (c .at)) ⌝ }
+    ensures reading { λ r. ⌜ readingParsed (r .reading) ≡ answerFrom Baseline.Start 0 (entries n (now (s .entry)) (c .at)) ⌝ }
     ensures views { λ r. ⌜ r .views ≡ keptViews (readingParsed (r .reading)) (c .at) (entryList n (now (s .entry)) (c .at)) ⌝ }
 {
     let blank = no_view();
@@ -72,7 +74,7 @@ fn views_at(s: &[u8], c: Cursor, n: usize) -> Views
             EntryRead::Entry(v) => {
                 j = judge(j, i, span_of(s, v));
                 d = Cursor { at: v.end };
-                if i < 16 {
+                if i < MAX_VIEWS {
                     views[i] = v;
                 }
             }
@@ -93,7 +95,7 @@ fn views_at(s: &[u8], c: Cursor, n: usize) -> Views
 pub fn views_of(image: &[u8]) -> Views
     ensures { λ r. ⌜ ViewsRead (now (image .entry)) r ⌝ }
 {
-    if 65536 < image.len() {
+    if MAX_IMAGE < image.len() {
         return no_views(CoeffTableCodecError::TooLong);
     }
     match header_at(image) {

@@ -1,4 +1,4 @@
--- Lists that a counting loop builds.
+-- Lists, tests and steps by an index that counts up.
 use mathlib.Core.List.{List, [], _∷_, _++_}
 use mathlib.Core.Bool.{Bool, true, _&&_}
 use Prim.Native.Nat.{ℕ, zero, suc, _-_}

@@ -1,5 +1,5 @@
-// The same wave in its four quarters as floats, so that a column of phases is looked up without a branch on the quarter. Proved entry by
-// entry.
+// The same wave in its four quarters as floats, so that a column of phases is looked up without a branch on the quarter. Its rule is one
+// computed test over all entries.
 ghost use Rattle.wave_table.specs.Wave.{Waves};
 
 // W(0) to W(1024). Each is a whole number of at most 2^23, so it is exact as a float.

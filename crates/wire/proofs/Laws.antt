@@ -13,7 +13,7 @@ use borrow.Author.Tests.{le-leb, lt-leb, ne-eqb}
 use Rattle.wire.specs.declared.utf8.Rest.{Rest}
 use Rattle.wire.specs.Parse.{ok, refused}
 use Rattle.wire.specs.Utf8.{Octets, Next, follow, bad, chars, lead, octet, onto, octets, utf8}
-use Rattle.wire.specs.inner.Utf8State.{octetsLeft, ranges, ValidUpTo}
+use Rattle.wire.specs.inner.Utf8State.{octetsLeft, ranges, NoneAbove}
 use Rattle.wire.specs.Cursor.{place, part, stringOf, badUtf8}
 
 -- whether n bytes are there, by the tests that the code makes
@@ -43,7 +43,7 @@ unfolding octet lead
 ascii-octet b h = simp (le-leb b 0x7f (omega arith), le-leb 0x0 b (omega arith))
 
 -- and n of them are passed over
-pub octets-plain : (s : List ℕ) (n i b : ℕ) → i + n ≤ length s → b < 0x80 → ValidUpTo s i n b → octets (drop i s) [] ≡ octets (drop (i + n) s) []
+pub octets-plain : (s : List ℕ) (n i b : ℕ) → i + n ≤ length s → b < 0x80 → NoneAbove s i n b → octets (drop i s) [] ≡ octets (drop (i + n) s) []
 octets-plain s zero i b h u f = ap (λ (k : ℕ). octets (drop k s) []) (none i)
   where
     none : (i : ℕ) → i ≡ i + 0

@@ -61,13 +61,13 @@ string = do
   stringOf n
 
 -- the position after an answer at a position: past what was read; a field that is refused leaves it
-abbrev pub after : {A : Type 0} → Parsed A → ℕ → ℕ
-after (ok a next) at = next
-after (refused r) at = at
+abbrev pub nextPosition : {A : Type 0} → Parsed A → ℕ → ℕ
+nextPosition (ok a next) at = next
+nextPosition (refused r) at = at
 
 -- the position after a string, read or refused: its length and its bytes are two fields, and each that is there is passed
 abbrev pub pastLength : Parsed ℕ → List ℕ → ℕ → ℕ
-pastLength (ok n next) s at = after (takeAt n s next) next
+pastLength (ok n next) s at = nextPosition (takeAt n s next) next
 pastLength (refused r) s at = at
 
 unfoldable pub stringEnd : List ℕ → ℕ → ℕ

@@ -9,28 +9,28 @@ pub record Octets : Type 0 where
   pub low : ℕ
   pub high : ℕ
 
-abbrev pub range : ℕ → ℕ → Octets
-range lo hi = record { low = lo; high = hi }
+abbrev pub octetRange : ℕ → ℕ → Octets
+octetRange lo hi = record { low = lo; high = hi }
 
 abbrev pub octetsHold : Octets → ℕ → Bool
 octetsHold r b = leb b (r .high) && leb (r .low) b
 
 -- UTF8-tail = %x80-BF
-abbrev pub tail : Octets
-tail = range 0x80 0xBF
+abbrev pub utf8Tail : Octets
+utf8Tail = octetRange 0x80 0xBF
 
 -- UTF8-char: a row for each alternative of UTF8-1, UTF8-2, UTF8-3 and UTF8-4, an entry for each octet of the character
 abbrev pub chars : List (List Octets)
 chars =
-    (range 0x00 0x7F ∷ []) ∷
-    (range 0xC2 0xDF ∷ tail ∷ []) ∷
-    (range 0xE0 0xE0 ∷ range 0xA0 0xBF ∷ tail ∷ []) ∷
-    (range 0xE1 0xEC ∷ tail ∷ tail ∷ []) ∷
-    (range 0xED 0xED ∷ range 0x80 0x9F ∷ tail ∷ []) ∷
-    (range 0xEE 0xEF ∷ tail ∷ tail ∷ []) ∷
-    (range 0xF0 0xF0 ∷ range 0x90 0xBF ∷ tail ∷ tail ∷ []) ∷
-    (range 0xF1 0xF3 ∷ tail ∷ tail ∷ tail ∷ []) ∷
-    (range 0xF4 0xF4 ∷ range 0x80 0x8F ∷ tail ∷ tail ∷ []) ∷
+    (octetRange 0x00 0x7F ∷ []) ∷
+    (octetRange 0xC2 0xDF ∷ utf8Tail ∷ []) ∷
+    (octetRange 0xE0 0xE0 ∷ octetRange 0xA0 0xBF ∷ utf8Tail ∷ []) ∷
+    (octetRange 0xE1 0xEC ∷ utf8Tail ∷ utf8Tail ∷ []) ∷
+    (octetRange 0xED 0xED ∷ octetRange 0x80 0x9F ∷ utf8Tail ∷ []) ∷
+    (octetRange 0xEE 0xEF ∷ utf8Tail ∷ utf8Tail ∷ []) ∷
+    (octetRange 0xF0 0xF0 ∷ octetRange 0x90 0xBF ∷ utf8Tail ∷ utf8Tail ∷ []) ∷
+    (octetRange 0xF1 0xF3 ∷ utf8Tail ∷ utf8Tail ∷ utf8Tail ∷ []) ∷
+    (octetRange 0xF4 0xF4 ∷ octetRange 0x80 0x8F ∷ utf8Tail ∷ utf8Tail ∷ []) ∷
     []
 
 -- what an octet leaves to follow in its character, or that it cannot stand here

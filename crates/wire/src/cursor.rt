@@ -2,7 +2,7 @@
 ghost use mathlib.Core.Path.{_≡_};
 ghost use Prim.Native.Nat.{_+_, _<_, _≤_};
 ghost use lib.ListN.{length};
-ghost use Rattle.wire.specs.Cursor.{le16, le32, takeAt, u16, u32, stringOf, string, after, stringEnd};
+ghost use Rattle.wire.specs.Cursor.{le16, le32, takeAt, u16, u32, stringOf, string, nextPosition, stringEnd};
 ghost use Rattle.wire.specs.Cursor.{takenParsed, u16Parsed, u32Parsed, stringParsed, reached};
 use crate::utf8::from_utf8;
 
@@ -122,7 +122,7 @@ impl Cursor {
 // A string of n bytes at a position.
 fn string_of(s: &[u8], at: usize, n: usize) -> StringRead
     ensures means { λ r. ⌜ stringParsed r ≡ stringOf n (now (s .entry)) at ⌝ }
-    ensures ends { λ r. ⌜ reached r ≡ after (takeAt n (now (s .entry)) at) at ⌝ }
+    ensures ends { λ r. ⌜ reached r ≡ nextPosition (takeAt n (now (s .entry)) at) at ⌝ }
 {
     if s.len() < at {
         return StringRead::UnexpectedEof(Cursor { at });

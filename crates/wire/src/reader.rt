@@ -2,7 +2,7 @@
 // and moves past what was read. A refusal leaves it where it was, but for a string: its length is passed where it is there, and so are
 // bytes that are not UTF-8.
 ghost use mathlib.Core.Path.{_≡_};
-ghost use Rattle.wire.specs.Cursor.{takeAt, u16, u32, string, after, stringEnd, takenParsed, u16Parsed, u32Parsed};
+ghost use Rattle.wire.specs.Cursor.{takeAt, u16, u32, string, nextPosition, stringEnd, takenParsed, u16Parsed, u32Parsed};
 ghost use Rattle.wire.specs.Cursor.{stringParsed, reached};
 ghost use Rattle.wire.specs.Reader.{Reads, ReadsString};
 use crate::cursor::Cursor;
@@ -24,7 +24,7 @@ fn take_at(buf: &[u8], pos: usize, n: usize) -> Taken
 }
 
 fn past_taken(r: Taken, pos: usize) -> usize
-    ensures { λ n. ⌜ n ≡ after (takenParsed r) pos ⌝ }
+    ensures { λ n. ⌜ n ≡ nextPosition (takenParsed r) pos ⌝ }
 {
     match r {
         Taken::Part(_, c) => c.at,
@@ -39,7 +39,7 @@ fn u16_at(buf: &[u8], pos: usize) -> U16Read
 }
 
 fn past_u16(r: U16Read, pos: usize) -> usize
-    ensures { λ n. ⌜ n ≡ after (u16Parsed r) pos ⌝ }
+    ensures { λ n. ⌜ n ≡ nextPosition (u16Parsed r) pos ⌝ }
 {
     match r {
         U16Read::Value(_, c) => c.at,
@@ -54,7 +54,7 @@ fn u32_at(buf: &[u8], pos: usize) -> U32Read
 }
 
 fn past_u32(r: U32Read, pos: usize) -> usize
-    ensures { λ n. ⌜ n ≡ after (u32Parsed r) pos ⌝ }
+    ensures { λ n. ⌜ n ≡ nextPosition (u32Parsed r) pos ⌝ }
 {
     match r {
         U32Read::Value(_, c) => c.at,

@@ -4,7 +4,7 @@ ghost use Prim.Native.Nat.{_+_, _<_, _≤_};
 ghost use mathlib.Core.List.{[]};
 ghost use lib.ListN.{length, drop};
 ghost use Rattle.wire.specs.Utf8.{chars, lead, octet, onto, octets, utf8};
-ghost use Rattle.wire.specs.inner.Utf8State.{ranges, followNext, ValidUpTo};
+ghost use Rattle.wire.specs.inner.Utf8State.{ranges, followNext, NoneAbove};
 ghost use Rattle.wire.specs.declared.utf8.Follow.{Follow};
 
 // What must follow in a character: `left` bytes more, the next one from `low` to `high`, those after it from 0x80 to 0xBF.
@@ -112,7 +112,7 @@ fn walk(s: &[u8], from: usize, to: usize, t: Rest) -> Follow
 // The highest of 64 bytes, in a loop without an exit: the machine takes 16 of them at a time.
 fn highest(s: &[u8], from: usize) -> u8
     requires { ⌜ from + 64 ≤ length (now s) ⌝ }
-    ensures { λ r. ⌜ ValidUpTo (now (s .entry)) from 64 r ⌝ }
+    ensures { λ r. ⌜ NoneAbove (now (s .entry)) from 64 r ⌝ }
 {
     let mut high = 0;
     let mut k = 0;

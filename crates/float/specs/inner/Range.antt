@@ -4,7 +4,7 @@ use lib.Dec.{T}
 use lib.Ieee.{Float}
 use lib.Ieee.Scale.{finite}
 use lib.Ieee.Positive.{num, den}
-pub use Rattle.float.specs.Sqrt.{plain}
+pub use Rattle.float.specs.inner.Normal.{plain}
 
 -- finite, with no sign, and at most a / c
 pub record Within (a c : ℕ) (x : Float) : Type 0 where

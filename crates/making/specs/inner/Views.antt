@@ -7,7 +7,8 @@ use Rattle.wire.specs.Parse.{Refusal, refusal}
 use Rattle.table.specs.declared.entry.EntryView.{EntryView}
 use Rattle.table.specs.declared.desk.Kind.{Kind}
 use Rattle.table.specs.Table.{PitchEntry}
-pub use Rattle.table.specs.Views.{viewed, noView}
+pub use Rattle.table.specs.Views.{noView}
+pub use Rattle.table.specs.inner.KeptViews.{viewed}
 use Rattle.table.specs.Desk.{bandCount}
 use Rattle.voice.specs.Voice.{rateOk}
 use Rattle.making.specs.Making.{f32, askMaking, channelFound, centresOk}

@@ -6,10 +6,10 @@ use mathlib.Core.Bool.{true}
 use mathlib.Core.List.{List, []}
 use lib.ListN.{getD}
 use lib.Ieee.{Float, nan}
-use Rattle.filters.specs.Rate.{Rate}
+use Rattle.filters.specs.inner.Ranges.{Rate}
 use Rattle.voice.specs.Lists.{upTo, steps, every}
 use Rattle.voice.specs.Input.{Call, inputsOk, frequenciesOk, frequencyOf, frequencyOk, cleaned}
-use Rattle.voice.specs.Voice.{listAt, pitchOk, stretchOk, phasesOk, bandsAscend, voiceOf, stateOf}
+use Rattle.voice.specs.Voice.{listAt, pitchesList, stretchesList, pitchOk, stretchOk, phasesOk, bandsAscend, voiceOf, stateOf}
 use Rattle.player.specs.Sound.{movedPhases, movedMemories, movedRng, partialSum, noiseSum}
 use Rattle.player.specs.Block.{stateAt, channelOut, blockOut, blockEnd}
 use Rattle.player.specs.inner.Columns.{LiveIn}
@@ -22,8 +22,8 @@ use Rattle.voice.specs.Limits.{maxEntries, maxPartials, maxBands, maxBlended}
 -- of the entries, so that every frequency can be looked up and gives steps that a phase can gain
 pub record EntriesFit (s : Setting) (lists : List Float) : Type 0 where
   pub sizes : (s .count ≤ maxEntries) × (s .m ≤ maxPartials) × (s .k ≤ maxBlended)
-  pub pitches-ok : every (λ i. pitchOk (getD (listAt lists 0) i nan)) (s .count) ≡ true
-  pub stretches-ok : every (λ i. stretchOk (getD (listAt lists 1) i nan)) (s .count) ≡ true
+  pub pitches-ok : every (λ i. pitchOk (getD (listAt lists pitchesList) i nan)) (s .count) ≡ true
+  pub stretches-ok : every (λ i. stretchOk (getD (listAt lists stretchesList) i nan)) (s .count) ≡ true
   pub rate : Rate (s .«sample_rate»)
 
 -- of the live bands: each is one of 16, and none comes twice

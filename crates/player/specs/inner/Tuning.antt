@@ -9,10 +9,12 @@ use lib.Ieee.{Float, nan, le}
 use Rattle.float.specs.F32.{quotient}
 use Rattle.player.specs.inner.Columns.{Filled, FilledRows}
 use Rattle.voice.specs.Lists.{every}
-use Rattle.player.specs.Phase.{AllSteps, partialFreq, stepOf}
+use Rattle.player.specs.Phase.{partialFreq, stepOf}
+use Rattle.player.specs.inner.Ranges.{AllSteps}
 use Rattle.player.specs.Fade.{nyquistFade}
 use Rattle.float.specs.inner.Range.{Within}
-use Rattle.player.specs.Bracket.{bracketOf, sidesOf, SidesIn, valueBetween}
+use Rattle.player.specs.Bracket.{bracketOf, sidesOf, valueBetween}
+use Rattle.player.specs.inner.Ranges.{SidesIn}
 use Rattle.player.specs.Sound.{partialRow, noiseRow}
 use Rattle.player.specs.declared.pitch.bracket.Sides.{Sides}
 use Rattle.player.specs.declared.constants.Constants.{Constants}

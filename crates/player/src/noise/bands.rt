@@ -5,6 +5,8 @@ ghost use lib.ListN.{length, getD};
 ghost use lib.Ieee.{nan};
 ghost use Rattle.player.specs.inner.Columns.{LiveIn, Memories, Coeffs, Ticked, scattered, Filled, FilledRows};
 ghost use Rattle.voice.specs.Limits.{maxBands};
+ghost use Rattle.voice.specs.Voice.{bandsAt};
+use voice::BANDS_AT;
 use voice::band_of;
 
 // The memories of the live bands, which lie two a band in 32 places.
@@ -34,14 +36,14 @@ pub fn gather_memories(
 // Row q, after the q rows before it: their coefficient q, in the order b0, b1, b2, a1, a2.
 fn gather_row(coeffs: &mut [f32; 160], lists: &[f32; 160], live: &[u8; 16], q: usize, n: usize)
     requires { ⌜ (q < 5) × (n ≤ maxBands) × LiveIn (now live) n
-        × FilledRows (now coeffs) (λ q l. getD (now lists) (64 + getD (now live) l 0 * 5 + q) nan) q n ⌝ }
-    ensures { λ r. ⌜ FilledRows (now (coeffs .exit)) (λ q l. getD (now (lists .entry)) (64 + getD (now (live .entry)) l 0 * 5 + q) nan)
+        × FilledRows (now coeffs) (λ q l. getD (now lists) (bandsAt + getD (now live) l 0 * 5 + q) nan) q n ⌝ }
+    ensures { λ r. ⌜ FilledRows (now (coeffs .exit)) (λ q l. getD (now (lists .entry)) (bandsAt + getD (now (live .entry)) l 0 * 5 + q) nan)
         (q + 1) n ⌝ }
 {
     let places = &mut coeffs[..];
     let mut l = 0;
     while l < n {
-        let from = 64 + band_of(live[l]) * 5 + q;
+        let from = BANDS_AT + band_of(live[l]) * 5 + q;
         let to = q * 32 + l;
         places[to] = lists[from];
         l += 1;

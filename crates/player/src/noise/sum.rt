@@ -8,7 +8,7 @@ ghost use lib.Ieee.{nan};
 ghost use Rattle.float.specs.Sqrt.{sqrt};
 ghost use Rattle.float.specs.F32.{_⊕_, _⊗_};
 ghost use Rattle.voice.specs.Lists.{steps};
-ghost use Rattle.player.specs.Bracket.{SidesIn};
+ghost use Rattle.player.specs.inner.Ranges.{SidesIn};
 ghost use Rattle.player.specs.inner.Columns.{LiveIn, bandTerm, Filled, FilledRows};
 ghost use Rattle.player.specs.inner.Terms.{noiseAdded};
 ghost use Rattle.filters.specs.Rng.{nextBipolar};

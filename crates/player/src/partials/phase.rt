@@ -2,7 +2,8 @@
 ghost use mathlib.Core.Path.{_≡_};
 ghost use mathlib.Core.Bool.{true};
 ghost use Prim.Native.Nat.{_≤_};
-ghost use Rattle.player.specs.Phase.{Step, advanceOf, partialFreq};
+ghost use Rattle.player.specs.Phase.{advanceOf, partialFreq};
+ghost use Rattle.player.specs.inner.Ranges.{Step};
 ghost use Rattle.voice.specs.Voice.{phaseOk};
 ghost use Rattle.voice.specs.Limits.{maxPartials};
 use crate::partials::floor::floor;

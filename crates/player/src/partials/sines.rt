@@ -4,7 +4,7 @@ ghost use mathlib.Core.Path.{_≡_};
 ghost use Prim.Native.Nat.{_≤_};
 ghost use lib.ListN.{length, getD};
 ghost use lib.Ieee.{nan};
-ghost use Rattle.player.specs.Phase.{AllPhases};
+ghost use Rattle.player.specs.inner.Ranges.{AllPhases};
 ghost use Rattle.player.specs.inner.Columns.{Filled};
 ghost use Rattle.wave_table.specs.Wave.{Waves};
 ghost use Rattle.filters.specs.Wave.{restOf, sineOf};

@@ -4,12 +4,12 @@ ghost use mathlib.Core.Bool.{true, false};
 ghost use Prim.Native.Nat.{_≤_, _<_, _+_, _*_};
 ghost use lib.ListN.{length, getD};
 ghost use lib.Ieee.{nan, le};
-ghost use Rattle.float.specs.Lerp.{lerp};
 ghost use Rattle.float.specs.inner.Range.{Within};
 ghost use Rattle.voice.specs.Lists.{every};
 ghost use Rattle.player.specs.Share.{shareOf};
 ghost use Rattle.voice.specs.Voice.{pitchOk};
-ghost use Rattle.player.specs.Bracket.{notAbove, bracketOf, sidesOf, SidesIn, valueBetween};
+ghost use Rattle.player.specs.Bracket.{notAbove, bracketOf, sidesOf, valueBetween, placeBetween};
+ghost use Rattle.player.specs.inner.Ranges.{SidesIn};
 ghost use Rattle.voice.specs.Limits.{maxEntries, maxHz};
 
 // One entry by its index, or two neighbours with the share between them.
@@ -104,7 +104,7 @@ pub fn value_between(l: &[f32; 16], s: Sides) -> f32
 // The same where each entry has `width` values: the one at its place `at`.
 pub fn place_between(xs: &[f32], s: Sides, width: usize, at: usize) -> f32
     requires { ⌜ (s .lo * width + at < length (now xs)) × (s .hi * width + at < length (now xs)) ⌝ }
-    ensures { λ r. ⌜ r ≡ lerp (getD (now (xs .entry)) (s .lo * width + at) nan) (getD (now (xs .entry)) (s .hi * width + at) nan) (s .t) ⌝ }
+    ensures { λ r. ⌜ r ≡ placeBetween width (now (xs .entry)) s at ⌝ }
 {
     let a = s.lo * width + at;
     let b = s.hi * width + at;

@@ -34,6 +34,6 @@ concluded agreed n end = ok n end
 concluded (broken r) n end = refused r
 
 -- the answer from the entry with index i on, where the entries left are read as given
-unfoldable pub outcome : Baseline → ℕ → Parsed (List PitchEntry) → Parsed ℕ
-outcome j i (ok es end) = concluded (verdictFrom j i es) (i + length es) end
-outcome j i (refused r) = refused r
+unfoldable pub answerFrom : Baseline → ℕ → Parsed (List PitchEntry) → Parsed ℕ
+answerFrom j i (ok es end) = concluded (verdictFrom j i es) (i + length es) end
+answerFrom j i (refused r) = refused r

@@ -1,18 +1,22 @@
--- An entry in the parts that the code reads by themselves: twice two numbers with a counted list, then the pairs.
--- Cited by private functions only.
+-- The entries that stand at a position, and an entry in the parts that the code reads by themselves: twice two numbers with a counted list,
+-- then the pairs. Cited by private functions only.
 use Prim.Native.Nat.{ℕ, _+_, _*_}
 use mathlib.Core.Path.{_≡_}
 use mathlib.Core.List.{List}
 use lib.ListN.{length}
 use lib.Dec.{eqb}
-use Rattle.wire.specs.Parse.{refusal, Parsed, ok, refused, Parser, pure, _>>=_, _>>_, require}
+use Rattle.wire.specs.Parse.{refusal, Parsed, ok, refused, Parser, pure, _>>=_, _>>_, require, standing}
 use Rattle.wire.specs.Cursor.{u32}
 use Rattle.table.specs.declared.entry.NumbersRead.{NumbersRead}
 use Rattle.table.specs.declared.entry.PairsRead.{PairsRead}
 use Rattle.table.specs.Table.{Pair, PitchEntry}
-use Rattle.table.specs.Image.{counted, pairs}
+use Rattle.table.specs.Image.{counted, pairs, entry}
 use Rattle.table.specs.View.{wordList, pairList}
 use Rattle.table.specs.Answer.{refusalOf}
+
+-- the entries that stand at a position, up to the first that cannot be read
+abbrev pub entryList : ℕ → List ℕ → ℕ → List PitchEntry
+entryList n s at = standing entry 0 n s at
 
 -- two numbers, then a count and as many numbers
 pub record Numbers : Type 0 where

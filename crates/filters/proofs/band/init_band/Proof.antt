@@ -1,7 +1,7 @@
 use mathlib.Core.Path.{refl, sym, subst}
 use lib.Dec.{T}
 use lib.Ieee.{ofBits, round}
-use Rattle.filters.specs.Band.{bandAt}
+use Rattle.filters.specs.Band.{bandFrom}
 use Rattle.filters.proofs.Tests.{rate-is}
 use Rattle.filters.proofs.band.init_band.Statement.{statement}
 use Rattle.filters.proofs.band.init_band.Tie as tie
@@ -20,7 +20,7 @@ band-of-requires c κs =
 
 -- src/band.rt:61:13
 returns : tie.Need-returns
-unfolding bandAt ofBits round
+unfolding bandFrom ofBits round
 returns c =
     let b1 = c .before in
     let b2 = b1 .before in
@@ -28,7 +28,7 @@ returns c =
 
 -- src/band.rt:56:1
 returns-2 : tie.Need-returns-2
-unfolding bandAt ofBits round
+unfolding bandFrom ofBits round
 returns-2 c =
     let b1 = c .before in
     let b2 = b1 .before in
@@ -36,7 +36,7 @@ returns-2 c =
 
 -- src/band.rt:56:1
 returns-3 : tie.Need-returns-3
-unfolding bandAt ofBits round
+unfolding bandFrom ofBits round
 returns-3 c =
     let b1 = c .before in
     rw (c .if1 .left, b1 .zero-coeffs .ensures) refl

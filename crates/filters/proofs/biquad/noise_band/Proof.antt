@@ -2,7 +2,7 @@
 use mathlib.Core.Path.{sym, subst}
 use lib.Dec.{T}
 use lib.Ieee.{Float, binary32, fits, ofBits, round}
-use Rattle.filters.specs.Wave.{Phase}
+use Rattle.filters.specs.inner.Ranges.{Phase}
 use Rattle.filters.specs.Biquad.{turn, turnQuarter}
 use Rattle.filters.proofs.BandLaws.{turn-phase, turn-quarter-phase}
 use borrow.Author.Needs.{needs}

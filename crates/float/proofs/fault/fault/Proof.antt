@@ -4,7 +4,7 @@ use Prim.Native.Nat.{ℕ, _≤_}
 use native.Mathlib.Omega.{arith}
 use lib.Dec.{T, lit≤}
 use lib.Ieee.{Float, binary32, fits, ofBits}
-use Rattle.float.specs.Roots.{Kept, IsRoot}
+use Rattle.float.specs.inner.Roots.{Kept, IsRoot}
 use Rattle.float.proofs.Finite.{shown}
 use Rattle.float.proofs.Operands.{sqrt-zero}
 use Rattle.float.proofs.Tested.{root-by-pattern}

@@ -2,7 +2,7 @@
 use mathlib.Core.Path.{_≡_, subst}
 use Prim.Native.Nat.{ℕ, _+_, _-_, _*_, _≤_}
 use native.Mathlib.Omega.{arith}
-use Rattle.float.specs.Roots.{RootsIfKept}
+use Rattle.float.specs.inner.Roots.{RootsIfKept}
 use Rattle.float.proofs.Column.{tested-none, tested-more}
 use borrow.Author.Needs.{needs}
 use Rattle.float.proofs.roots.faults.Statement.{statement}

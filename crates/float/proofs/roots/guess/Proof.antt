@@ -2,7 +2,7 @@
 use mathlib.Core.Path.{sym, _∙_, subst}
 use lib.Dec.{T}
 use lib.Ieee.{binary32, fits, ofBits}
-use Rattle.float.specs.Sqrt.{normal}
+use Rattle.float.specs.inner.Normal.{normal}
 use Rattle.float.proofs.Finite.{shown}
 use Rattle.float.proofs.Patterns.{normal-range, normal-plain, plain-no-nan}
 use Rattle.float.proofs.Operands.{sqrt-normal}

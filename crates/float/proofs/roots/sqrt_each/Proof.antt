@@ -3,7 +3,8 @@ use mathlib.Core.Path.{_≡_, _∙_}
 use mathlib.Core.List.{List}
 use native.Mathlib.Nat.{le-trans}
 use lib.Ieee.{Float}
-use Rattle.float.specs.Roots.{rooted, IsRoot, DoneUpTo}
+use Rattle.float.specs.Roots.{rooted}
+use Rattle.float.specs.inner.Roots.{IsRoot, DoneUpTo}
 use Rattle.float.proofs.Column.{rooted-least, upto-rooted}
 use borrow.Author.Needs.{needs}
 use Rattle.float.proofs.roots.sqrt_each.Statement.{statement}

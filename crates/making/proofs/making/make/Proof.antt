@@ -1,7 +1,7 @@
 use mathlib.Core.Path.{refl, sym, _∙_}
 use native.Mathlib.Omega.{arith}
 use Rattle.making.specs.Making.{making, makeOf, makeQuestion}
-use Rattle.making.specs.Answer.{tableMade}
+use Rattle.making.specs.inner.Made.{tableMade}
 use Rattle.making.proofs.ReadLaws.{table-read, table-refused, too-many, refused-make}
 use borrow.Author.Needs.{needs}
 use Rattle.making.proofs.making.make.Statement.{statement}

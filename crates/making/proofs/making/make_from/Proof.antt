@@ -5,7 +5,8 @@ use lib.Dec.{eqb}
 use Rattle.wire.specs.Parse.{Refusal}
 use Rattle.making.specs.Making.{tableQuestion, freshVoice, blankVoice}
 use Rattle.making.specs.inner.Views.{viewed}
-use Rattle.making.specs.Answer.{makeRefusal, tableMade}
+use Rattle.making.specs.Answer.{makeRefusal}
+use Rattle.making.specs.inner.Made.{tableMade}
 use Rattle.making.proofs.MakingLaws.{table-accepted, accepted-question}
 use Rattle.making.proofs.ReadLaws.{given-back}
 use borrow.Author.Needs.{needs}

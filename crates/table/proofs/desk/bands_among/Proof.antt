@@ -4,7 +4,7 @@ use native.Mathlib.Omega.{arith}
 use Rattle.wire.specs.Parse.{standing}
 use Rattle.wire.proofs.Many.{whole, stand-no, stand-end}
 use Rattle.table.specs.Image.{entry}
-use Rattle.table.specs.View.{entryList}
+use Rattle.table.specs.inner.Entry.{entryList}
 use Rattle.table.specs.Answer.{entryParsed}
 use Rattle.table.specs.Desk.{bandCount}
 use Rattle.table.proofs.DeskLaws.{bands-go, bands-none}

@@ -1,6 +1,6 @@
 use mathlib.Core.Path.{sym, ap, _∙_}
 use Rattle.wire.specs.Cursor.{u32Parsed, takenParsed}
-use Rattle.table.specs.Answer.{placedCount}
+use Rattle.table.specs.inner.Answers.{placedCount}
 use Rattle.table.proofs.WordLaws.{counted-none, counted-ok, counted-short, count-placed}
 use borrow.Author.Needs.{needs}
 use Rattle.table.proofs.entry.counted_at.Statement.{statement}

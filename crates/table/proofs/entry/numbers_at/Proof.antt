@@ -2,7 +2,7 @@ use mathlib.Core.Path.{refl, sym, ap, _∙_}
 use native.Mathlib.Omega.{arith}
 use Rattle.wire.specs.Cursor.{u32Parsed}
 use Rattle.wire.proofs.Found.{u32-is}
-use Rattle.table.specs.Answer.{countedParsed}
+use Rattle.table.specs.inner.Answers.{countedParsed}
 use Rattle.table.specs.inner.Entry.{numbers}
 use Rattle.table.proofs.WordLaws.{count-runs}
 use borrow.Author.Needs.{needs}

@@ -3,7 +3,7 @@ use Rattle.wire.specs.Cursor.{u32Parsed}
 use Rattle.wire.proofs.Found.{u32-is}
 use Rattle.wire.proofs.Many.{many-length}
 use Rattle.table.specs.Image.{pair}
-use Rattle.table.specs.Answer.{skippedParsed}
+use Rattle.table.specs.inner.Answers.{skippedParsed}
 use Rattle.table.specs.inner.Entry.{metadata}
 use Rattle.table.proofs.MetadataLaws.{pairs-are, pairs-arent}
 use borrow.Author.Needs.{needs}

@@ -1,5 +1,6 @@
 use mathlib.Core.Path.{refl, sym, ap, _∙_}
-use Rattle.table.specs.Answer.{headerParsed, counts}
+use Rattle.table.specs.Answer.{counts}
+use Rattle.table.specs.inner.Answers.{headerParsed}
 use Rattle.table.proofs.AcceptedLaws.{header-none, header-some}
 use Rattle.table.proofs.LookupLaws.{view-table}
 use borrow.Author.Needs.{needs}

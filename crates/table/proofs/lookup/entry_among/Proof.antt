@@ -6,7 +6,7 @@ use mathlib.Core.Option.{some}
 use Rattle.wire.specs.Parse.{standing}
 use Rattle.wire.proofs.Many.{whole, stand-no, stand-end}
 use Rattle.table.specs.Image.{entry}
-use Rattle.table.specs.View.{entryList}
+use Rattle.table.specs.inner.Entry.{entryList}
 use Rattle.table.specs.Answer.{entryParsed}
 use Rattle.table.specs.Lookup.{viewFrom}
 use Rattle.table.proofs.LookupLaws.{view-here, view-go, view-none}

@@ -7,7 +7,7 @@ use Rattle.wire.proofs.Many.{whole, stand-no, stand-end}
 use Rattle.table.specs.Table.{same, metadataValue}
 use Rattle.table.specs.Image.{pair}
 use Rattle.table.specs.View.{pairList}
-use Rattle.table.specs.Answer.{pairParsed}
+use Rattle.table.specs.inner.Answers.{pairParsed}
 use Rattle.table.proofs.MetadataLaws.{find-here, find-go}
 use borrow.Author.Needs.{needs}
 use Rattle.table.proofs.metadata.find.Statement.{statement}

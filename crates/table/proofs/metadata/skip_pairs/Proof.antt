@@ -4,7 +4,7 @@ use native.Mathlib.Omega.{arith}
 use Rattle.wire.specs.Parse.{many}
 use Rattle.wire.proofs.Many.{whole, many-no, many-end}
 use Rattle.table.specs.Image.{pair, pairs}
-use Rattle.table.specs.Answer.{pairParsed, skips}
+use Rattle.table.specs.inner.Answers.{pairParsed, skips}
 use Rattle.table.proofs.MetadataLaws.{skip-go}
 use borrow.Author.Needs.{needs}
 use Rattle.table.proofs.metadata.skip_pairs.Statement.{statement}

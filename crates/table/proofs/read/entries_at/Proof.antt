@@ -5,7 +5,7 @@ use Rattle.wire.specs.Parse.{many}
 use Rattle.wire.proofs.Many.{whole}
 use Rattle.table.specs.declared.span.Baseline.{Baseline}
 use Rattle.table.specs.Image.{entry, entries}
-use Rattle.table.specs.inner.Baseline.{outcome}
+use Rattle.table.specs.inner.Baseline.{answerFrom}
 use Rattle.table.specs.Answer.{entryParsed}
 use Rattle.table.proofs.SpanLaws.{entries-go, entries-no, entries-end}
 use borrow.Author.Needs.{needs}
@@ -13,7 +13,7 @@ use Rattle.table.proofs.read.entries_at.Statement.{statement}
 use Rattle.table.proofs.read.entries_at.Tie as tie
 
 abbrev Inv-loop : tie.InvT-loop
-Inv-loop s n d₀ i₀ j₀ d i j = (i ≤ n) × (outcome j i (many entry i (n - i) s (d .at)) ≡ outcome Baseline.Start 0 (entries n s (d₀ .at)))
+Inv-loop s n d₀ i₀ j₀ d i j = (i ≤ n) × (answerFrom j i (many entry i (n - i) s (d .at)) ≡ answerFrom Baseline.Start 0 (entries n s (d₀ .at)))
 
 abbrev μ-loop : tie.MeasureT-loop
 μ-loop s n d₀ i₀ j₀ d i j = n - i

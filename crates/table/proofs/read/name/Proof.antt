@@ -3,7 +3,7 @@ use Prim.Native.Nat.{ℕ, _+_}
 use native.Mathlib.Omega.{arith}
 use Rattle.table.specs.Decode.{nameOf}
 use Rattle.table.specs.Name.{nameStart}
-use Rattle.table.specs.Answer.{headerParsed}
+use Rattle.table.specs.inner.Answers.{headerParsed}
 use Rattle.table.proofs.AcceptedLaws.{header-none, header-some, name-starts}
 use borrow.Author.Needs.{needs}
 use Rattle.table.proofs.read.name.Statement.{statement}

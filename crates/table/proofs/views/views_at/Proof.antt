@@ -8,9 +8,9 @@ use Rattle.wire.specs.Parse.{many, standing}
 use Rattle.wire.proofs.Many.{whole}
 use Rattle.table.specs.declared.span.Baseline.{Baseline}
 use Rattle.table.specs.Image.{entry, entries}
-use Rattle.table.specs.View.{entryList}
+use Rattle.table.specs.inner.Entry.{entryList}
 use Rattle.table.specs.Views.{viewsFrom}
-use Rattle.table.specs.inner.Baseline.{outcome}
+use Rattle.table.specs.inner.Baseline.{answerFrom}
 use Rattle.table.specs.Answer.{entryParsed, readingParsed}
 use Rattle.table.proofs.SizeLaws.{placed-view}
 use Rattle.table.proofs.SpanLaws.{entries-go, entries-no, entries-end}
@@ -21,7 +21,7 @@ use Rattle.table.proofs.views.views_at.Tie as tie
 
 abbrev Inv-loop : tie.InvT-loop
 Inv-loop s n views₀ d₀ i₀ j₀ views d i j =
-    (i ≤ n) × (outcome j i (many entry i (n - i) s (d .at)) ≡ outcome Baseline.Start 0 (entries n s (d₀ .at))) × (length views ≡ 16)
+    (i ≤ n) × (answerFrom j i (many entry i (n - i) s (d .at)) ≡ answerFrom Baseline.Start 0 (entries n s (d₀ .at))) × (length views ≡ 16)
     × (putAll views i (d .at) (standing entry i (n - i) s (d .at)) ≡ viewsFrom 16 (d₀ .at) (entryList n s (d₀ .at)))
 
 abbrev μ-loop : tie.MeasureT-loop

@@ -7,12 +7,12 @@ use borrow.Author.Needs.{needs}
 use borrow.Author.Count.{below-more}
 use native.Mathlib.Nat.{le-trans}
 use native.Mathlib.Omega.{arith}
-use Rattle.wire.specs.inner.Utf8State.{ValidUpTo}
+use Rattle.wire.specs.inner.Utf8State.{NoneAbove}
 use Rattle.wire.proofs.utf8.highest.Statement.{statement}
 use Rattle.wire.proofs.utf8.highest.Tie as tie
 
 abbrev Inv-loop : tie.InvT-loop
-Inv-loop s from high₀ k₀ high k = (k ≤ 64) × (from + 64 ≤ length s) × ValidUpTo s from k high
+Inv-loop s from high₀ k₀ high k = (k ≤ 64) × (from + 64 ≤ length s) × NoneAbove s from k high
 
 abbrev μ-loop : tie.MeasureT-loop
 μ-loop s from high₀ k₀ high k = 64 - k
@@ -21,7 +21,7 @@ empty : (k : ℕ) → k < 0 → ⊥
 empty k h = omega arith
 
 -- one byte more
-more : (s : List ℕ) (f k a b : ℕ) → ValidUpTo s f k a → a ≤ b → getD s (f + k) 0 ≤ b → ValidUpTo s f (k + 1) b
+more : (s : List ℕ) (f k a b : ℕ) → NoneAbove s f k a → a ≤ b → getD s (f + k) 0 ≤ b → NoneAbove s f (k + 1) b
 more s f k a b u h g = below-more (λ j. getD s (f + j) 0 ≤ b) k (λ j l. le-trans (u j l) h) g
 
 loop-holds : tie.Need-loop-holds Inv-loop μ-loop

@@ -8,7 +8,8 @@ use lib.Ieee.{nan, ofBits, round}
 use Rattle.float.specs.F32.{quotient}
 use Rattle.voice.specs.Lists.{steps, mapTo}
 use Rattle.voice.specs.Voice.{phaseOk}
-use Rattle.player.specs.Phase.{Step, advanceOf, stepOf}
+use Rattle.player.specs.Phase.{advanceOf, stepOf}
+use Rattle.player.specs.inner.Ranges.{Step}
 use Rattle.player.specs.inner.Terms.{sampleAdded}
 use Rattle.voice.proofs.Loops.{mapTo-again, mapTo-read, mapTo-full, steps-again, steps-full}
 use Rattle.player.proofs.RangeLaws.{turn-phase, step-small, advance-ok}

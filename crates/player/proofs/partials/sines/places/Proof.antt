@@ -7,7 +7,7 @@ use lib.Dec.{T}
 use lib.ListN.{length, getD, length-set}
 use lib.Ieee.{Float, nan, binary32, ofBits, fits, sub}
 use Rattle.player.specs.inner.Columns.{Filled}
-use Rattle.player.specs.Phase.{Phase}
+use Rattle.player.specs.inner.Ranges.{Phase}
 use Rattle.filters.specs.Wave.{placeOf, restOf}
 use Rattle.player.specs.inner.Sines.{cellFloat, Cell, AllCells}
 use Rattle.player.proofs.Waves.{place-small, phase-cell, cells-none, cells-more, cells-full}

@@ -1,7 +1,8 @@
 -- `sides_at` meets its contract.
 use mathlib.Core.Path.{sym, ap, _∙_, subst}
 use Rattle.float.specs.inner.Range.{Within}
-use Rattle.player.specs.Bracket.{sidesOf, SidesIn}
+use Rattle.player.specs.Bracket.{sidesOf}
+use Rattle.player.specs.inner.Ranges.{SidesIn}
 use Rattle.player.specs.declared.pitch.bracket.Sides.{Sides}
 use borrow.Author.Needs.{needs}
 use Rattle.player.proofs.pitch.bracket.sides_at.Statement.{statement}

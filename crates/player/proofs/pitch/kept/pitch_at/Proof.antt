@@ -5,7 +5,7 @@ use Prim.Native.Nat.{ℕ, _<_}
 use lib.ListN.{getD}
 use lib.Ieee.{nan}
 use Rattle.voice.specs.Voice.{stretchOk}
-use Rattle.player.specs.Bracket.{SidesIn}
+use Rattle.player.specs.inner.Ranges.{SidesIn}
 use Rattle.voice.proofs.Loops.{every-at}
 use Rattle.player.proofs.SoundLaws.{sides-wide}
 use Rattle.player.proofs.pitch.kept.pitch_at.Statement.{statement}

@@ -45,7 +45,7 @@ use denote.Exit.{yes}
 use Rattle.wire.specs.declared.cursor.Taken.{Taken}
 use Rattle.wire.specs.declared.reader.Reader.{Reader}
 use Rattle.wire.specs.Parse.{Parsed}
-use Rattle.wire.specs.Cursor.{takeAt, after, takenParsed}
+use Rattle.wire.specs.Cursor.{takeAt, nextPosition, takenParsed}
 use Rattle.wire.specs.Reader.{movedTo}
 use Rattle.wire.proofs.Held.{valueOf, OfSlice, OfReader, slice-of, reader-of, both}
 use Rattle.wire.proofs.reader.Reader as T
@@ -139,16 +139,16 @@ module _ {M : Type 1} (𝓤 : URA M) (H : Heap 𝓤) (A : Atoms 𝓤) (W : Given
       qed W [] ∵ nothing ! $ nothing ! $ owned ! usize (Is usize) (uint-makes 𝓤 H A W w64) (h .pos) _ (refl, fits) $ fjoin ! $
       owned ! S.the-row (Is S.the-row) (EL.makes S.the-type S′.the-plain 𝓤 H A) r (u ∷ []) is $ fjoin ! $ move ! (1 ∷ 0 ∷ []) $ join ! $ frame ! $ done !
 
-  places : (r : Taken) (m : ℕ) → ent 𝓤 (ensured 𝓤 H A past.ended (past.clauses 𝓤 H A mem-of run) tt (r, (h .pos, tt)) tt m) (fact 𝓤 (m ≡ after (takenParsed r) (h .pos)))
-  places r m = exE 𝓤 _ (λ ws. snd∗ 𝓤 (sem 𝓤 H A (lasts past.ended tt (r, (h .pos, tt)) ws)) (fact 𝓤 (m ≡ after (takenParsed r) (h .pos))))
+  places : (r : Taken) (m : ℕ) → ent 𝓤 (ensured 𝓤 H A past.ended (past.clauses 𝓤 H A mem-of run) tt (r, (h .pos, tt)) tt m) (fact 𝓤 (m ≡ nextPosition (takenParsed r) (h .pos)))
+  places r m = exE 𝓤 _ (λ ws. snd∗ 𝓤 (sem 𝓤 H A (lasts past.ended tt (r, (h .pos, tt)) ws)) (fact 𝓤 (m ≡ nextPosition (takenParsed r) (h .pos))))
 
   -- ---- the end
-  exits : (r : Taken) (u : Val) (m : ℕ) → Is S.the-row r (u ∷ []) → takenParsed r ≡ found → m ≡ after (takenParsed r) (h .pos)
+  exits : (r : Taken) (u : Val) (m : ℕ) → Is S.the-row r (u ∷ []) → takenParsed r ≡ found → m ≡ nextPosition (takenParsed r) (h .pos)
       → ent 𝓤 (⋆ 𝓤 H A (‵ (fobs γ (R .coded .code (movedTo h m))) ∷ ‵ (fbor κ (Body (mem R) b o γ)) ∷ ‵ (flft κ q) ∷ (‵ token ⊛ ‵ ftrue) ∷ [])) (Post u)
   exits r u m is e p =
       qed W (‵ (fobs γ (R .coded .code (movedTo h m))) ∷ ‵ (fbor κ (Body (mem R) b o γ)) ∷ ‵ (flft κ q) ∷ (‵ token ⊛ ‵ ftrue) ∷ []) ∵
       suffices ! _ (ends-at 𝓤 H A method.ended stayed (method.clauses 𝓤 H A mem-of run) W (((κ, (κ′, tt)), (q, (q′, tt)), bounds, a, vals), tt) u r (movedTo h m, (tt, tt)) (tt, (tt, tt))) $
-      says ! (e, ap (movedTo h) (p ∙ ap (λ (x : Parsed ℕ). after x (h .pos)) e)) $
+      says ! (e, ap (movedTo h) (p ∙ ap (λ (x : Parsed ℕ). nextPosition x (h .pos)) e)) $
       move ! (2 ∷ 3 ∷ []) $ join ! $ frame ! $ feqI ! (List Val) (vptr b o ∷ []) (vptr b o ∷ []) refl $ fjoin3 ! $ nothing ! $ owned ! usize (Is usize) (uint-makes 𝓤 H A W w64) n _ (refl, n-fits) $ fjoin ! $ move ! (1 ∷ 0 ∷ []) $ fjoin ! $
       owned ! S.the-row (Is S.the-row) (EL.makes S.the-type S′.the-plain 𝓤 H A) r (u ∷ []) is $ move ! (1 ∷ 0 ∷ []) $ done !
 
@@ -179,7 +179,7 @@ module _ {M : Type 1} (𝓤 : URA M) (H : Heap 𝓤) (A : Atoms 𝓤) (W : Given
         use0 W (raw (Past 𝓤 H A mem-of run .pre (to-past r u))) (hands r u is (fits-in g)) $
         calls-at ! fm (Past 𝓤 H A mem-of run) known-past (to-past r u) (and-then ! (load ! (from ! (stop !)) (look ! 14 refl)) (and-then ! (load ! (from ! (stop !)) (look ! 8 refl)) (no-more !))) (λ w.
         use1 W (later (some (λ (m : ℕ). (‵ ftrue ⊛ ‵ (usize .own m (w ∷ []))) ⊛ raw (ensured 𝓤 H A past.ended (past.clauses 𝓤 H A mem-of run) tt (r, (h .pos, tt)) tt m)))) (id⊢ 𝓤 _) $ await ! tt $ pick ! (λ m.
-        split ! $ move ! (1 ∷ []) $ use1 W (raw (fact 𝓤 (m ≡ after (takenParsed r) (h .pos)))) (places r m) $ heard ! (m ≡ after (takenParsed r) (h .pos)) (λ p. split ! $ move ! (1 ∷ []) $
+        split ! $ move ! (1 ∷ []) $ use1 W (raw (fact 𝓤 (m ≡ nextPosition (takenParsed r) (h .pos)))) (places r m) $ heard ! (m ≡ nextPosition (takenParsed r) (h .pos)) (λ p. split ! $ move ! (1 ∷ []) $
         peeks ! usize (Is usize) (shows 𝓤 H A usize) m (w ∷ []) (λ at-m.
         land ! (from ! (stop !)) (store ! 11 refl (uint-lawful 𝓤 H A W w64 .typed m _ at-m .0)) $ rewrite ! 11 (λ (x : Val). ‵ (fat fullShare (tyInt w64) l₅ 0 x)) (ap only (at-m .0)) refl $ drop ! $ drop ! $
         assigns ! (of-opd ! (load ! (from ! (stop !)) (look ! 9 refl))) (from ! (hop ! (look ! 17 refl) (fld ! refl (stop !)))) (store-in ! 2 (sub ! 1 refl (whole !)) (tt, record { fits = at-m .1 })) $

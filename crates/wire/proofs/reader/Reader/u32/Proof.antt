@@ -5,7 +5,7 @@ use denote.Triple.Spec.{tripleOf}
 use denote.Triple.Table.{entered, cited}
 use Prim.Native.Nat.{ℕ}
 use Rattle.wire.specs.Parse.{Parsed}
-use Rattle.wire.specs.Cursor.{u32, after, u32Parsed}
+use Rattle.wire.specs.Cursor.{u32, nextPosition, u32Parsed}
 use Rattle.wire.specs.Reader.{movedTo, Reads}
 use Rattle.wire.proofs.Method.{meets}
 use Rattle.wire.proofs.cursor.U32Read as S
@@ -28,6 +28,6 @@ unfolding code.routine tablesOf
 u32-spec 𝓤 H 𝓜 𝓖 𝓡 =
     entered 𝓤 H (tripleOf 𝓤 H (𝓖 .A) method.signature (method.spec 𝓤 H (𝓖 .A) (𝓜 .mem) (𝓡 .run)))
     (tables 𝓤 H 𝓜 𝓡 code.env .C) (tables 𝓤 H 𝓜 𝓡 code.env .Λ) #method code.function (code.unfolded 𝓤 H 𝓜 𝓡)
-    (meets S.the-type S′.the-laws tt S′.the-plain (λ r pos. after (u32Parsed r) pos) (λ r s pos. u32Parsed r ≡ u32 s pos) (λ r. Reads u32 (u32Parsed r)) (λ r h n e p. (e, ap (movedTo h) (p ∙ ap (λ (x : Parsed ℕ). after x (h .pos)) e))) #field #past 𝓤 H (𝓖 .A) (givenOf 𝓤 H 𝓜 𝓖) (tablesOf 𝓤 H 𝓜 (tables 𝓤 H 𝓜 𝓡 code.env))
+    (meets S.the-type S′.the-laws tt S′.the-plain (λ r pos. nextPosition (u32Parsed r) pos) (λ r s pos. u32Parsed r ≡ u32 s pos) (λ r. Reads u32 (u32Parsed r)) (λ r h n e p. (e, ap (movedTo h) (p ∙ ap (λ (x : Parsed ℕ). nextPosition x (h .pos)) e))) #field #past 𝓤 H (𝓖 .A) (givenOf 𝓤 H 𝓜 𝓖) (tablesOf 𝓤 H 𝓜 (tables 𝓤 H 𝓜 𝓡 code.env))
     (cited 𝓤 H (tripleOf 𝓤 H (𝓖 .A) field.signature (field.spec 𝓤 H (𝓖 .A) (𝓜 .mem) (𝓡 .run))) 𝓜 𝓡 code.env #field field-def.routine code.calls-wire·reader·u32-at (field-thm.met 𝓤 H 𝓜 𝓖 𝓡))
     (cited 𝓤 H (tripleOf 𝓤 H (𝓖 .A) past.signature (past.spec 𝓤 H (𝓖 .A) (𝓜 .mem) (𝓡 .run))) 𝓜 𝓡 code.env #past past-def.routine code.calls-wire·reader·past-u32 (past-thm.met 𝓤 H 𝓜 𝓖 𝓡)))
