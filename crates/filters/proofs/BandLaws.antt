@@ -1,27 +1,25 @@
 -- A band's centre is at most half the sample rate, so that the sine and the cosine of its angle are read at phases.
 use mathlib.Core.Path.{_≡_, refl, sym, ap, _∙_, subst}
 use Prim.Native.Nat.{ℕ, zero, suc, _+_, _-_, _*_, _%_, _^_, _≤_, _<_}
-use native.Mathlib.Nat.{le-trans, le-of-eq, le-of-lt, lt-of-le-of-lt, lt-of-lt-of-le, not-le-of-lt, lt-of-not-le, le-of-suc-le-suc, mul-comm, mul-assoc, mul-left-comm, mul-lt-mul-of-pos-right, mul-pos, mul-one, one-mul, zero-mul, sub-add-cancel}
+use native.Mathlib.Nat.{le-trans, le-of-eq, le-of-lt, lt-of-le-of-lt, lt-of-lt-of-le, not-le-of-lt, mul-comm, mul-assoc, mul-left-comm, mul-lt-mul-of-pos-right, mul-pos, mul-one, one-mul, zero-mul, sub-add-cancel}
 use native.Mathlib.Omega.{arith}
 use mathlib.Core.Bool.{Bool, true, false, _&&_, cond, true≢false}
 use lib.IntN.{pos, negsuc}
 use lib.Dec.{T, ltb, leb, eqb, ltb→lt, lt→ltb, lit≤, lit<}
-use lib.Pow.{pow-pos, pow-add, pow-lt, pow-mono, shl-lt}
+use lib.Pow.{pow-pos, pow-add, pow-mono, shl-lt}
 use lib.Ieee.{Float, nan, inf, fin, binary32, up, down, round, lt, isNan, fits}
 use lib.Ieee.Fits.{down-pos, and-l, and-r}
 use lib.Ieee.Exact.{round-exact}
 use lib.Ieee.Positive.{num, den, den-pos, through}
 use Rattle.float.specs.inner.Range.{plain, Within}
 use Rattle.float.specs.Order.{minimum, maximum}
-use Rattle.float.proofs.Within.{Holds, round-within, mul-is, mul-within, div-within, add-within, le→cross}
+use Rattle.float.proofs.Within.{Holds, round-within, mul-is, mul-within, div-within, add-within, le→cross, pow-le-back}
+use Rattle.float.proofs.Finite.{by-cond}
 use Rattle.float.proofs.Fraction.{not-lt}
 use Rattle.float.specs.F32.{_⊗_, quotient}
 use Rattle.filters.specs.inner.Ranges.{Phase}
 use Rattle.filters.specs.inner.Ranges.{Rate}
 use Rattle.filters.specs.Biquad.{turn, turnQuarter, centerOf}
-
-pow-le-back : (i j : ℕ) → 2 ^ i ≤ 2 ^ j → i ≤ j
-pow-le-back i j h = le-of-suc-le-suc (lt-of-not-le (λ (g : suc j ≤ i). not-le-of-lt (pow-lt g) h))
 
 -- half of a float that is at least 1 is held
 half-holds : (x : Float) → T (fits binary32 x) → T (plain x) → den x ≤ num x → Holds binary32 (num x) (den x * 2)
@@ -54,11 +52,6 @@ half-holds (fin false (suc m) (negsuc k)) t p h =
     room : (k : ℕ) → 24 + (148 - k) ≤ 149 + 128
     room k = omega arith
 
--- one of two, by a test
-picked : (P : Float → Type 0) (b : Bool) (x y : Float) → (b ≡ true → P x) → (b ≡ false → P y) → P (cond b x y)
-picked P true x y f g = f refl
-picked P false x y f g = g refl
-
 abbrev twenty : Float
 twenty = fin false 5 (pos 2)
 
@@ -80,8 +73,8 @@ up-to (fin false k e) m p n l t = (tt, le→cross (fin false k e) m tt p (not-lt
 -- the smaller of raw and m, where it is at least 20
 low-end : (P Q : ℕ) (raw m : Float) → Within P Q m → isNan (minimum raw m) ≡ false → lt (minimum raw m) twenty ≡ false → Within P Q (minimum raw m)
 low-end P Q raw m M =
-    picked (λ (z : Float). isNan z ≡ false → lt z twenty ≡ false → Within P Q z) (isNan raw) m (cond (lt m raw) m raw) (λ (e : isNan raw ≡ true) n t. M)
-    (λ (e : isNan raw ≡ false). picked (λ (z : Float). isNan z ≡ false → lt z twenty ≡ false → Within P Q z) (lt m raw) m raw (λ (l : lt m raw ≡ true) n t. M)
+    by-cond (λ (z : Float). isNan z ≡ false → lt z twenty ≡ false → Within P Q z) (isNan raw) m (cond (lt m raw) m raw) (λ (e : isNan raw ≡ true) n t. M)
+    (λ (e : isNan raw ≡ false). by-cond (λ (z : Float). isNan z ≡ false → lt z twenty ≡ false → Within P Q z) (lt m raw) m raw (λ (l : lt m raw ≡ true) n t. M)
     (λ (l : lt m raw ≡ false) n t.
     let u = up-to raw m (M .plain-is) n l t in
     record { plain-is = u .0; upper = through (num raw) (num m) P (den raw) (den m) Q (den-pos m) (u .1) (M .upper) }))
@@ -90,8 +83,8 @@ low-end P Q raw m M =
 high-end : (P Q : ℕ) (raw m : Float) → Within P Q m → Within P Q twenty → Within P Q (maximum (minimum raw m) twenty)
 high-end P Q raw m M W =
     let a = minimum raw m in
-    picked (λ (z : Float). Within P Q z) (isNan a) twenty (cond (lt a twenty) twenty a) (λ (e : isNan a ≡ true). W)
-    (λ (e : isNan a ≡ false). picked (λ (z : Float). Within P Q z) (lt a twenty) twenty a (λ (l : lt a twenty ≡ true). W) (λ (l : lt a twenty ≡ false). low-end P Q raw m M e l))
+    by-cond (λ (z : Float). Within P Q z) (isNan a) twenty (cond (lt a twenty) twenty a) (λ (e : isNan a ≡ true). W)
+    (λ (e : isNan a ≡ false). by-cond (λ (z : Float). Within P Q z) (lt a twenty) twenty a (λ (l : lt a twenty ≡ true). W) (λ (l : lt a twenty ≡ false). low-end P Q raw m M e l))
 
 module _ (rate : Float) (F : T (fits binary32 rate)) (R : Rate rate) where
   at-least-one : den rate ≤ num rate

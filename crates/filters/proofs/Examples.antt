@@ -89,9 +89,9 @@ least = fin false 2305843 (negsuc 60)
 abbrev its-root : Float
 its-root = fin false 8796093 (negsuc 42)
 
-root-is : sqrt least ≡ its-root
+least-root : sqrt least ≡ its-root
 unfolding sqrt root grown round mul lt ofBits ofFields toBits
-root-is = refl
+least-root = refl
 
 abbrev million : Float
 million = fin false 15625 (pos 6)
@@ -111,7 +111,7 @@ made-up = refl
 -- a power that the floor raises
 raised : (power : Float) → maximum power (quotient 1 1000000000000) ≡ least → compensationOf power ≡ quotient 1000000 1
 raised power e =
-    ap (λ (z : Float). quotient 1 1 ⊘ sqrt z) e ∙ ap (λ (z : Float). quotient 1 1 ⊘ z) root-is ∙ ap (λ (z : Float). z ⊘ its-root) one-is ∙ made-up ∙ million-is
+    ap (λ (z : Float). quotient 1 1 ⊘ sqrt z) e ∙ ap (λ (z : Float). quotient 1 1 ⊘ z) least-root ∙ ap (λ (z : Float). z ⊘ its-root) one-is ∙ made-up ∙ million-is
 
 floor-none : maximum (quotient 0 1) (quotient 1 1000000000000) ≡ least
 unfolding round lt isNan

@@ -2,7 +2,6 @@
 use mathlib.Core.Path.{_≡_, sym, ap, _∙_, subst}
 use Prim.Native.Nat.{ℕ, _+_, _≤_}
 use native.Mathlib.Nat.{le-trans, le-of-eq}
-use native.Mathlib.Omega.{arith}
 use mathlib.Core.Bool.{false}
 use mathlib.Core.List.{List}
 use lib.IntN.{ℤ, pos, negsuc, natAbs, _-ℤ_}
@@ -13,10 +12,7 @@ use mir.Val.{SFits, toZ, ofZ}
 use mir.ValLaws.{toZ-ofZ}
 use Rattle.float.proofs.Ints.{abs-minus, abs-sfits, abs-in-float}
 use Rattle.filters.specs.Wave.{placeOf, cellOf, waveIn, lineIn}
-use Rattle.filters.proofs.Quarters.{wave-abs}
-
-wider : (n : ℕ) → n ≤ 8388608 → n ≤ 16777216
-wider n h = omega arith
+use Rattle.filters.proofs.Quarters.{wider, wave-abs}
 
 abbrev back : ℤ → ℤ
 back z = toZ w32 (ofZ w32 z)

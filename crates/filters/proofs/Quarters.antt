@@ -18,7 +18,7 @@ use Rattle.filters.specs.Wave.{quarterIn, signedIn, waveIn}
 wide : (n : ℕ) → n ≤ 8388608 → n < 2147483648
 wide n h = omega arith
 
-wider : (n : ℕ) → n ≤ 8388608 → n ≤ 16777216
+pub wider : (n : ℕ) → n ≤ 8388608 → n ≤ 16777216
 wider n h = omega arith
 
 -- T(k) as the list has it is at most 2 ^ 23

@@ -1,7 +1,7 @@
 -- The wave's steps: q = p * 1024 and r = q - k are exact, k is below 1024, S is from -1 to 1, and what `sine` answers over the table is S.
 use mathlib.Core.Path.{_≡_, refl, sym, ap, _∙_, subst}
 use Prim.Native.Nat.{ℕ, suc, _+_, _-_, _*_, _%_, _≤_, _<_, min}
-use native.Mathlib.Nat.{le-trans, le-of-eq, le-of-lt, lt-of-lt-of-le, lt-of-le-of-lt, mul-comm, mul-assoc, mul-le-mul-right, mul-lt-mul-of-pos-right, lt-of-mul-lt-mul-right, mul-pos, mul-one, one-mul, div-lt-iff-lt-mul, mod-lt}
+use native.Mathlib.Nat.{le-refl, le-trans, le-of-eq, le-of-lt, lt-of-lt-of-le, lt-of-le-of-lt, mul-comm, mul-assoc, mul-le-mul-right, mul-lt-mul-of-pos-right, lt-of-mul-lt-mul-right, mul-pos, mul-one, one-mul, div-lt-iff-lt-mul, mod-lt}
 use native.Mathlib.Omega.{arith}
 use mathlib.Core.Bool.{Bool, true, false, not, _&&_, _||_, cond}
 use mathlib.Core.List.{List}
@@ -17,7 +17,7 @@ use Rattle.float.proofs.Within.{Holds, value-plain, value-cross, value-within, 
 use Rattle.float.proofs.Scaled.{scale-value}
 use Rattle.float.proofs.Fraction.{fraction-value, whole-is, not-lt}
 use Rattle.float.proofs.Unique.{plain-unique}
-use Rattle.float.proofs.Bounds.{round-neg, mul-neg, int-within}
+use Rattle.float.proofs.Bounds.{round-neg, mul-neg, int-within, one-times}
 use Rattle.float.proofs.Mag.{within-mag, int-mag, mul-mag, add-mag}
 use Rattle.float.specs.F32.{quotient}
 use Rattle.wave_table.specs.Wave.{quarterOf, signedQuarter, waveOf, Table}
@@ -25,6 +25,7 @@ use Rattle.filters.specs.Wave.{placeOf, cellOf, restOf, lineOf, sineOf, 
 use Rattle.filters.specs.inner.Ranges.{Phase}
 use Rattle.wave_table.proofs.Every.{upTo-is}
 use Rattle.wave_table.proofs.Entries.{small}
+use Rattle.filters.proofs.Quarters.{wider}
 use Rattle.filters.proofs.Apart.{signed, plain-signed, neg-signed, add-apart}
 
 -- p is below 1
@@ -83,9 +84,9 @@ sizes : ℕ → Bool
 unfolding waveOf quarterOf
 sizes k = leb (natAbs (waveOf k)) 8388608
 
-steps : ℕ → Bool
+stepsSmall : ℕ → Bool
 unfolding waveOf quarterOf
-steps k = leb (natAbs (waveOf (k + 1) -ℤ waveOf k)) 8388608
+stepsSmall k = leb (natAbs (waveOf (k + 1) -ℤ waveOf k)) 8388608
 
 calm : ℕ → Bool
 unfolding waveOf quarterOf
@@ -96,8 +97,8 @@ unfolding sizes waveOf quarterOf
 size-is k h = leb→le (natAbs (waveOf k)) 8388608 (upTo-is sizes 1024 tt k h)
 
 step-is : (k : ℕ) → k < 1024 → natAbs (waveOf (k + 1) -ℤ waveOf k) ≤ 8388608
-unfolding steps waveOf quarterOf
-step-is k h = leb→le (natAbs (waveOf (k + 1) -ℤ waveOf k)) 8388608 (upTo-is steps 1024 tt k h)
+unfolding stepsSmall waveOf quarterOf
+step-is k h = leb→le (natAbs (waveOf (k + 1) -ℤ waveOf k)) 8388608 (upTo-is stepsSmall 1024 tt k h)
 
 calm-is : (k : ℕ) → k < 1024 → T (leb (natAbs (waveOf k) + natAbs (waveOf (k + 1) -ℤ waveOf k)) 8388608 || unlikeSigns (waveOf k) (waveOf (k + 1) -ℤ waveOf k))
 unfolding calm waveOf quarterOf
@@ -114,27 +115,15 @@ module _ (r : Float) (R : Within 1 1 r) where
   -- r times a whole number
   times : (z : ℤ) (a : ℕ) → a ≤ 8388608 → natAbs z ≤ a → Mag a 1 (mul binary32 r (ofInt binary32 z))
   times z a A h =
-      mul-mag binary32 r (ofInt binary32 z) 1 1 a 1 a 1 (lit< tt) (lit< tt) (lit< tt) (whole-holds a (wide a A)) (within-mag 1 1 r R) (int-mag binary32 z a (whole-holds a (wide a A)) h) (one-time a)
-    where
-      wide : (n : ℕ) → n ≤ 8388608 → n ≤ 16777216
-      wide n h = omega arith
-
-      one-time : (a : ℕ) → 1 * a * 1 ≤ a * (1 * 1)
-      one-time a = omega arith
+      mul-mag binary32 r (ofInt binary32 z) 1 1 a 1 a 1 (lit< tt) (lit< tt) (lit< tt) (whole-holds a (wider a A)) (within-mag 1 1 r R) (int-mag binary32 z a (whole-holds a (wider a A)) h) (one-times a 1)
 
   -- away from 0
   along : (z d : ℤ) → natAbs z ≤ 8388608 → natAbs d ≤ 8388608 → natAbs z + natAbs d ≤ 8388608 → Mag 8388608 1 (add binary32 (ofInt binary32 z) (mul binary32 r (ofInt binary32 d)))
   unfolding round
   along z d Z D h =
       add-mag binary32 (ofInt binary32 z) (mul binary32 r (ofInt binary32 d)) (natAbs z) 1 (natAbs d) 1 8388608 1 (lit< tt) (lit< tt) (lit< tt) (refl, refl)
-      (int-mag binary32 z (natAbs z) (whole-holds (natAbs z) (wide (natAbs z) Z)) (same (natAbs z))) (times d (natAbs d) D (same (natAbs d))) (both (natAbs z) (natAbs d) h)
+      (int-mag binary32 z (natAbs z) (whole-holds (natAbs z) (wider (natAbs z) Z)) (le-refl (natAbs z))) (times d (natAbs d) D (le-refl (natAbs d))) (both (natAbs z) (natAbs d) h)
     where
-      wide : (n : ℕ) → n ≤ 8388608 → n ≤ 16777216
-      wide n h = omega arith
-
-      same : (n : ℕ) → n ≤ n
-      same n = omega arith
-
       both : (a b : ℕ) → a + b ≤ 8388608 → (a * 1 + b * 1) * 1 ≤ 8388608 * (1 * 1)
       both a b h = omega arith
 
@@ -144,16 +133,7 @@ module _ (r : Float) (R : Within 1 1 r) where
 
   product-plain : (n : ℕ) → n ≤ 8388608 → T (plain (mul binary32 r (ofInt binary32 (pos n))))
   product-plain n h =
-      mul-within binary32 r (ofInt binary32 (pos n)) 1 1 n 1 n 1 (lit< tt) (lit< tt) (lit< tt) (whole-holds n (wide n h)) R (int-within n n (same n) (wide n h)) (one-time n) .plain-is
-    where
-      wide : (n : ℕ) → n ≤ 8388608 → n ≤ 16777216
-      wide n h = omega arith
-
-      same : (n : ℕ) → n ≤ n
-      same n = omega arith
-
-      one-time : (a : ℕ) → 1 * a * 1 ≤ a * (1 * 1)
-      one-time a = omega arith
+      mul-within binary32 r (ofInt binary32 (pos n)) 1 1 n 1 n 1 (lit< tt) (lit< tt) (lit< tt) (whole-holds n (wider n h)) R (int-within n n (le-refl n) (wider n h)) (one-times n 1) .plain-is
 
   product-signed : (n : ℕ) → suc n ≤ 8388608 → T (signed true (mul binary32 r (ofInt binary32 (negsuc n))))
   product-signed n h =
@@ -210,10 +190,10 @@ not-above : (p : Float) → T (fits binary32 p) → Phase p → lt (quotient 0 1
 unfolding round fits
 not-above p t h l =
     plain-unique binary32 p (quotient 0 1) t tt (h .plain-is) tt
-    (none (num p) (den p) (le→cross p (quotient 0 1) (h .plain-is) tt (not-lt (quotient 0 1) p tt (h .plain-is) l)))
+    (is-zero (num p) (den p) (le→cross p (quotient 0 1) (h .plain-is) tt (not-lt (quotient 0 1) p tt (h .plain-is) l)))
   where
-    none : (a b : ℕ) → a * 1 ≤ 0 * b → a * 1 ≡ 0 * b
-    none a b h = omega arith
+    is-zero : (a b : ℕ) → a * 1 ≤ 0 * b → a * 1 ≡ 0 * b
+    is-zero a b h = omega arith
 
 -- LAW: S(0) is 0
 pub zero-sine : quotient 0 1 ≡ sineOf (quotient 0 1)

@@ -16,8 +16,8 @@ use Rattle.float.proofs.Bounds.{le-or-lt}
 use Rattle.float.specs.F32.{quotient}
 use Rattle.filters.specs.inner.Ranges.{Rate}
 
-not-zero : (a : ℕ) → 0 < a → a ≡ 0 → ⊥
-not-zero a h e = lt-irrefl 0 (lt-of-lt-of-le h (le-of-eq e))
+pub positive-not-zero : (a : ℕ) → 0 < a → a ≡ 0 → ⊥
+positive-not-zero a h e = lt-irrefl 0 (lt-of-lt-of-le h (le-of-eq e))
 
 low0 : (n : ℕ) → 0 ≤ n
 low0 n = omega arith
@@ -32,7 +32,7 @@ module _ (n j : ℕ) (N : 0 < n) where
   unfolding le lt eq
   not-negative m e h =
       let a = n * 2 ^ j * down e in
-      not-zero a (mul-pos (mul-pos N (pow-pos j)) (down-pos e)) (eqb→eq a 0 (and-r (eqb a (m * up e * 1)) (eqb a 0) h))
+      positive-not-zero a (mul-pos (mul-pos N (pow-pos j)) (down-pos e)) (eqb→eq a 0 (and-r (eqb a (m * up e * 1)) (eqb a 0) h))
 
   -- n * 2 ^ j is at most x: so it is at most x's whole part
   pub whole-above : (x : Float) → n * 2 ^ j ≤ 2 ^ 64 - 1 → T (le level x) → n * 2 ^ j ≤ toUnsigned 64 x

@@ -2,19 +2,19 @@
 use mathlib.Core.Path.{_≡_, refl, sym, ap, _∙_, subst}
 use mathlib.Core.Logic.{_⊎_, inl, inr}
 use Prim.Native.Nat.{ℕ, zero, suc, _+_, _-_, _*_, _^_, _≤_, _<_}
-use native.Mathlib.Nat.{le-refl, le-trans, le-of-eq, le-of-lt, lt-of-lt-of-le, lt-of-le-of-lt, mul-comm, mul-assoc, mul-left-comm, mul-right-comm, mul-le-mul-right, mul-lt-mul-of-pos-right, lt-of-mul-lt-mul-right, mul-pos, mul-one, one-mul, zero-mul, mul-sub, sub-add-cancel, not-le-of-lt, lt-of-not-le, le-of-suc-le-suc}
+use native.Mathlib.Nat.{le-refl, le-trans, le-of-eq, le-of-lt, lt-of-lt-of-le, lt-of-le-of-lt, mul-comm, mul-assoc, mul-left-comm, mul-right-comm, mul-le-mul-right, mul-lt-mul-of-pos-right, lt-of-mul-lt-mul-right, mul-pos, mul-one, one-mul, zero-mul, mul-sub, sub-add-cancel, lt-of-not-le}
 use native.Mathlib.Omega.{arith}
 use mathlib.Core.Bool.{Bool, true, false, cond}
 use lib.IntN.{pos, negsuc}
 use lib.Dec.{T, ltb, leb, lt→ltb, leb→le, le→leb, lit<}
-use lib.Pow.{pow-pos, pow-add, pow-lt}
+use lib.Pow.{pow-pos, pow-add}
 use lib.Ieee.{Float, nan, inf, fin, Format, prec, emax, low, binary32, up, down, odd, units, round, sum, add, sub, mul, div, neg, le, ofInt, fits}
 use lib.Ieee.Exact.{HasValue}
 use lib.Ieee.Back.{round-whole}
 use lib.Ieee.Order.{round-mono}
 use lib.Ieee.Positive.{num, den, den-pos, first-pos}
 use Rattle.float.specs.inner.Range.{plain, Within}
-use Rattle.float.proofs.Within.{Holds, value-within, add-within, mul-within, div-within, sub-within, sub-is, le→cross, fits-holds, fitting}
+use Rattle.float.proofs.Within.{Holds, value-within, add-within, mul-within, div-within, sub-within, sub-is, le→cross, fits-holds, fitting, pow-le-back}
 use Rattle.float.specs.inner.Range.{AtMost}
 use Rattle.float.specs.Lerp.{lerp}
 
@@ -83,21 +83,19 @@ mul-neg f (fin false m e) (inf t) p q = absurd q
 mul-neg f (fin false m e) (fin true n d) p q = absurd q
 mul-neg f (fin false m e) (fin false n d) p q = round-neg f (m * up e * (n * up d)) (down e * down d)
 
-add-neg : (f : Format) (x y : Float) → add f x (neg y) ≡ sub f x y
+pub add-neg : (f : Format) (x y : Float) → add f x (neg y) ≡ sub f x y
 unfolding sub
 add-neg f x y = refl
+
+-- 1 times a / c is at most a / c, as `mul-within` asks
+pub one-times : (a c : ℕ) → 1 * a * c ≤ a * (1 * c)
+one-times a c = simp (mul-assoc, mul-comm, mul-left-comm) (omega arith)
 
 pub lerp-within : (a b : ℕ) (lo hi t : Float) → T (fits binary32 lo) → Holds binary32 a 1 → Holds binary32 b 1 → a + a ≤ b → Within a 1 lo → Within a 1 hi → Within 1 1 t → Within b 1 (lerp lo hi t)
 lerp-within a b lo hi t F v w h L H S = go (le-or-lt (num lo * den hi) (num hi * den lo))
   where
     both : (a b : ℕ) → a + a ≤ b → (a * 1 + a * 1) * 1 ≤ b * (1 * 1)
     both a b h = omega arith
-
-    one-time : (a : ℕ) → 1 * a * 1 ≤ a * (1 * 1)
-    one-time a = omega arith
-
-    one-of : (a c : ℕ) → 1 * a * c ≤ a * (1 * c)
-    one-of a c = simp (mul-assoc, mul-comm, mul-left-comm) (omega arith)
 
     less : (a b : ℕ) → a + a ≤ b → a * 1 ≤ b * 1
     less a b h = omega arith
@@ -106,14 +104,14 @@ lerp-within a b lo hi t F v w h L H S = go (le-or-lt (num lo * den hi) (num hi *
     go (inl l) =
         let u = sub binary32 hi lo in
         let U : Within a 1 u = sub-within binary32 hi lo a 1 a 1 (lit< tt) (lit< tt) v H (L .plain-is) l (le-refl (a * 1)) in
-        let W : Within a 1 (mul binary32 t u) = mul-within binary32 t u 1 1 a 1 a 1 (lit< tt) (lit< tt) (lit< tt) v S U (one-time a) in
+        let W : Within a 1 (mul binary32 t u) = mul-within binary32 t u 1 1 a 1 a 1 (lit< tt) (lit< tt) (lit< tt) v S U (one-times a 1) in
         add-within binary32 lo (mul binary32 t u) a 1 a 1 b 1 (lit< tt) (lit< tt) (lit< tt) w L W (both a b h)
     go (inr l) =
         let u = sub binary32 lo hi in
         let D = den-pos lo in
         let self : Holds binary32 (num lo) (den lo) = fits-holds binary32 lo F (L .plain-is) in
         let U : AtMost lo u = sub-within binary32 lo hi (num lo) (den lo) (num lo) (den lo) D D self (up-to-self lo (L .plain-is)) (H .plain-is) (le-of-lt l) (le-refl (num lo * den lo)) in
-        let W : AtMost lo (mul binary32 t u) = mul-within binary32 t u 1 1 (num lo) (den lo) (num lo) (den lo) (lit< tt) D D self S U (one-of (num lo) (den lo)) in
+        let W : AtMost lo (mul binary32 t u) = mul-within binary32 t u 1 1 (num lo) (den lo) (num lo) (den lo) (lit< tt) D D self S U (one-times (num lo) (den lo)) in
         let e : lerp lo hi t ≡ sub binary32 lo (mul binary32 t u) =
         ap (λ (z : Float). add binary32 lo (mul binary32 t z)) (sub-swap binary32 hi lo (H .plain-is) (L .plain-is) l)
         ∙ ap (λ (z : Float). add binary32 lo z) (mul-neg binary32 t u (S .plain-is) (U .plain-is))
@@ -129,9 +127,6 @@ pub int-within : (n a : ℕ) → n ≤ a → a ≤ 16777216 → Within a 1 (ofIn
 int-within n a h k = value-within (ofInt binary32 (pos n)) n 1 a 1 (lit< tt) (lit< tt) (int-value n (le-trans h k)) (mul-le-mul-right 1 h)
 
 -- ---- a difference of two values that differ is not rounded to 0
-pow-le-back : (i j : ℕ) → 2 ^ i ≤ 2 ^ j → i ≤ j
-pow-le-back i j h = le-of-suc-le-suc (lt-of-not-le (λ (g : suc j ≤ i). not-le-of-lt (pow-lt g) h))
-
 -- in units of 2 ^ -149 a value is a whole number
 pub count : (x : Float) → T (fits binary32 x) → T (plain x) → (u : ℕ) × (num x * 2 ^ 149 ≡ u * den x)
 unfolding fits

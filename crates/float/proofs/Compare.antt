@@ -27,15 +27,15 @@ test-off : (b : Bool) → b ≡ false → T (not b)
 test-off true h = subst T h tt
 test-off false h = tt
 
-turn-up : (a b : ℕ) → b ≤ a → T (ltb b a || (eqb b a && true))
-turn-up a b h =
+not-below-plus : (a b : ℕ) → b ≤ a → T (ltb b a || (eqb b a && true))
+not-below-plus a b h =
     elim (eq-or-lt-of-le h) [
       | inl e ↦ or-right (ltb b a) (eqb b a && true) (and-i (eqb b a) true (eq→eqb e) tt)
       | inr l ↦ or-left (ltb b a) (eqb b a && true) (lt→ltb b a l)
     ]
 
-turn-down : (a b : ℕ) → a ≤ b → T (ltb a b || (eqb b a && true))
-turn-down a b h =
+not-below-minus : (a b : ℕ) → a ≤ b → T (ltb a b || (eqb b a && true))
+not-below-minus a b h =
     elim (eq-or-lt-of-le h) [
       | inl e ↦ or-right (ltb a b) (eqb b a && true) (and-i (eqb b a) true (eq→eqb (sym e)) tt)
       | inr l ↦ or-left (ltb a b) (eqb b a && true) (lt→ltb a b l)
@@ -43,23 +43,23 @@ turn-down a b h =
 
 -- two sizes whose sum is 0 are 0
 both-zero : (a b : ℕ) → b + a ≤ 0 → T (eqb b a && eqb b 0)
-both-zero a b h = and-i (eqb b a) (eqb b 0) (eq→eqb (same a b h)) (eq→eqb (none a b h))
+both-zero a b h = and-i (eqb b a) (eqb b 0) (eq→eqb (same a b h)) (eq→eqb (is-zero a b h))
   where
     same : (a b : ℕ) → b + a ≤ 0 → b ≡ a
     same a b h = omega arith
 
-    none : (a b : ℕ) → b + a ≤ 0 → b ≡ 0
-    none a b h = omega arith
+    is-zero : (a b : ℕ) → b + a ≤ 0 → b ≡ 0
+    is-zero a b h = omega arith
 
-turn : (s : Bool) (a : ℕ) (t : Bool) (b : ℕ) → below s a t b ≡ false → T (below t b s a || level t b s a)
-turn false a false b h = turn-up a b (nltb→le a b (test-off (ltb a b) h))
-turn true a true b h = turn-down a b (nltb→le b a (test-off (ltb b a) h))
-turn false a true b h = go (ltb 0 (b + a)) (nltb→le 0 (b + a))
+not-below : (s : Bool) (a : ℕ) (t : Bool) (b : ℕ) → below s a t b ≡ false → T (below t b s a || level t b s a)
+not-below false a false b h = not-below-plus a b (nltb→le a b (test-off (ltb a b) h))
+not-below true a true b h = not-below-minus a b (nltb→le b a (test-off (ltb b a) h))
+not-below false a true b h = go (ltb 0 (b + a)) (nltb→le 0 (b + a))
   where
     go : (c : Bool) → (T (not c) → b + a ≤ 0) → T (c || (eqb b a && eqb b 0))
     go true f = tt
     go false f = both-zero a b (f tt)
-turn true a false b h = both-zero a b (le-trans (le-of-eq (swap a b)) (nltb→le 0 (a + b) (test-off (ltb 0 (a + b)) h)))
+not-below true a false b h = both-zero a b (le-trans (le-of-eq (swap a b)) (nltb→le 0 (a + b) (test-off (ltb 0 (a + b)) h)))
   where
     swap : (a b : ℕ) → b + a ≡ a + b
     swap a b = omega arith
@@ -71,7 +71,7 @@ finite-not-lt nan y p q h = absurd p
 finite-not-lt (inf s) y p q h = absurd p
 finite-not-lt (fin s m e) nan p q h = absurd q
 finite-not-lt (fin s m e) (inf t) p q h = absurd q
-finite-not-lt (fin s m e) (fin t n d) p q h = turn s (m * up e * down d) t (n * up d * down e) h
+finite-not-lt (fin s m e) (fin t n d) p q h = not-below s (m * up e * down d) t (n * up d * down e) h
 
 same-sign : (s : Bool) (c : Bool) → T (Bool·beq s s || c)
 same-sign true c = tt

@@ -7,6 +7,7 @@ use lib.Ieee.{Float, nan, inf, fin, up, down, lt, le, ne, isNan}
 use lib.Ieee.Bits.{is-true}
 use lib.Ieee.Scale.{finite}
 use Rattle.float.specs.Order.{maximum, minimum}
+use Rattle.float.proofs.Finite.{by-cond}
 use Rattle.float.proofs.Compare.{finite-not-lt, finite-le-self, lt-le}
 
 -- only a NaN differs from itself
@@ -32,28 +33,23 @@ max-is a b h = ap (λ (n : Bool). cond n b (cond (lt a b) b a)) (finite-no-nan a
 pub min-is : (a b : Float) → T (finite a) → minimum a b ≡ cond (lt b a) b a
 min-is a b h = ap (λ (n : Bool). cond n b (cond (lt b a) b a)) (finite-no-nan a h)
 
--- by the two ways of the test
-by-test : (P : Float → Type 0) (a b : Float) (t : Bool) → (t ≡ true → P b) → (t ≡ false → P a) → P (cond t b a)
-by-test P a b true f g = f refl
-by-test P a b false f g = g refl
-
 -- LAW: the maximum of two finite floats, of either sign, is at least each, and the minimum at most each
 pub max-over-left : (a b : Float) → T (finite a) → T (le a (maximum a b))
 max-over-left a b h =
     subst (λ (z : Float). T (le a z)) (sym (max-is a b h))
-    (by-test (λ (z : Float). T (le a z)) a b (lt a b) (λ (e : lt a b ≡ true). lt-le a b (subst T (sym e) tt)) (λ (e : lt a b ≡ false). finite-le-self a h))
+    (by-cond (λ (z : Float). T (le a z)) (lt a b) b a (λ (e : lt a b ≡ true). lt-le a b (subst T (sym e) tt)) (λ (e : lt a b ≡ false). finite-le-self a h))
 
 pub max-over-right : (a b : Float) → T (finite a) → T (finite b) → T (le b (maximum a b))
 max-over-right a b h k =
     subst (λ (z : Float). T (le b z)) (sym (max-is a b h))
-    (by-test (λ (z : Float). T (le b z)) a b (lt a b) (λ (e : lt a b ≡ true). finite-le-self b k) (λ (e : lt a b ≡ false). finite-not-lt a b h k e))
+    (by-cond (λ (z : Float). T (le b z)) (lt a b) b a (λ (e : lt a b ≡ true). finite-le-self b k) (λ (e : lt a b ≡ false). finite-not-lt a b h k e))
 
 pub min-under-left : (a b : Float) → T (finite a) → T (le (minimum a b) a)
 min-under-left a b h =
     subst (λ (z : Float). T (le z a)) (sym (min-is a b h))
-    (by-test (λ (z : Float). T (le z a)) a b (lt b a) (λ (e : lt b a ≡ true). lt-le b a (subst T (sym e) tt)) (λ (e : lt b a ≡ false). finite-le-self a h))
+    (by-cond (λ (z : Float). T (le z a)) (lt b a) b a (λ (e : lt b a ≡ true). lt-le b a (subst T (sym e) tt)) (λ (e : lt b a ≡ false). finite-le-self a h))
 
 pub min-under-right : (a b : Float) → T (finite a) → T (finite b) → T (le (minimum a b) b)
 min-under-right a b h k =
     subst (λ (z : Float). T (le z b)) (sym (min-is a b h))
-    (by-test (λ (z : Float). T (le z b)) a b (lt b a) (λ (e : lt b a ≡ true). finite-le-self b k) (λ (e : lt b a ≡ false). finite-not-lt b a k h e))
+    (by-cond (λ (z : Float). T (le z b)) (lt b a) b a (λ (e : lt b a ≡ true). finite-le-self b k) (λ (e : lt b a ≡ false). finite-not-lt b a k h e))

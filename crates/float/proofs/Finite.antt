@@ -7,7 +7,7 @@ use mathlib.Core.Bool.{Bool, true, false, not, _&&_, _||_, cond, Bool·beq}
 use lib.IntN.{pos}
 use lib.Dec.{T, ltb, eqb, ltb→lt, lt→ltb}
 use lib.Pow.{pow-pos}
-use lib.Ieee.{Float, nan, inf, fin, Format, prec, emax, low, binary32, up, down, round, sum, add, sub, neg, eq, lt, isNan, nanBits, ofBits}
+use lib.Ieee.{Float, nan, inf, fin, Format, prec, emax, low, binary32, up, down, round, sum, add, sub, div, neg, eq, lt, isNan, nanBits, ofBits}
 use lib.Ieee.Fits.{down-pos}
 use lib.Ieee.Bits.{nanBits-is, nanBits-above, is-true, is-false}
 use lib.Ieee.Exact.{HasValue, round-exact}
@@ -16,6 +16,11 @@ use lib.Ieee.Scale.{finite}
 -- a test that is true
 pub shown : (b : Bool) → b ≡ true → T b
 shown b h = subst T (sym h) tt
+
+-- what holds of both holds of the one that a test picks
+pub by-cond : {A : Type 0} (P : A → Type 0) (t : Bool) (a b : A) → (t ≡ true → P a) → (t ≡ false → P b) → P (cond t a b)
+by-cond P true a b f g = f refl
+by-cond P false a b f g = g refl
 
 -- ---- x - x = 0: x is finite
 zero-holds : (f : Format) (s : Bool) (c : ℕ) → 0 < c → HasValue (round f s 0 c) s 0 c
@@ -75,15 +80,20 @@ only-nan nan h = refl
 only-nan (inf s) h = absurd (subst T (sym h) tt)
 only-nan (fin s m e) h = absurd (subst T (sym h) tt)
 
+-- +0 / +0, as the code makes a NaN
+pub zero-by-zero : div binary32 (ofBits binary32 0) (ofBits binary32 0) ≡ nan
+unfolding div ofBits
+zero-by-zero = refl
+
 pub nan-pattern : (n : ℕ) → 2139095040 < n % 2147483648 → ofBits binary32 n ≡ nan
 nan-pattern n h = only-nan (ofBits binary32 n) (sym (nanBits-is binary32 n) ∙ nanBits-above binary32 n ∙ is-true (ltb 2139095040 (n % 2147483648)) (lt→ltb 2139095040 (n % 2147483648) h))
 
 pub no-nan-pattern : (n : ℕ) → n % 2147483648 ≤ 2139095040 → T (not (nanBits binary32 n))
-no-nan-pattern n h = subst (λ (b : Bool). T (not b)) (sym (nanBits-above binary32 n)) (no (ltb 2139095040 (n % 2147483648)) (λ (t : T (ltb 2139095040 (n % 2147483648))). clash (n % 2147483648) h (ltb→lt 2139095040 (n % 2147483648) t)))
+no-nan-pattern n h = subst (λ (b : Bool). T (not b)) (sym (nanBits-above binary32 n)) (no (ltb 2139095040 (n % 2147483648)) (λ (t : T (ltb 2139095040 (n % 2147483648))). not-both (n % 2147483648) h (ltb→lt 2139095040 (n % 2147483648) t)))
   where
     no : (b : Bool) → (T b → ⊥) → T (not b)
     no true h = h tt
     no false h = tt
 
-    clash : (a : ℕ) → a ≤ 2139095040 → 2139095040 < a → ⊥
-    clash a h k = omega arith
+    not-both : (a : ℕ) → a ≤ 2139095040 → 2139095040 < a → ⊥
+    not-both a h k = omega arith

@@ -35,15 +35,15 @@ den-one nan t p h = absurd p
 den-one (inf s) t p h = absurd p
 den-one (fin true m e) t p h = absurd p
 den-one (fin false m (pos k)) t p h = refl
-den-one (fin false zero (negsuc k)) t p h = absurd (none (8388608 * 2 ^ suc k) (mul-pos (lit< tt) (pow-pos (suc k))) h)
+den-one (fin false zero (negsuc k)) t p h = absurd (not-under-zero (8388608 * 2 ^ suc k) (mul-pos (lit< tt) (pow-pos (suc k))) h)
   where
-    none : (a : ℕ) → 0 < a → a ≤ 0 * 1 → ⊥
-    none a h k = omega arith
+    not-under-zero : (a : ℕ) → 0 < a → a ≤ 0 * 1 → ⊥
+    not-under-zero a h k = omega arith
 den-one (fin false (suc m) (negsuc k)) t p h =
-    absurd (clash (suc m) (2 ^ k) (pow-pos k) (fitting binary32 false m (negsuc k) t .short) (subst (λ (z : ℕ). 8388608 * z ≤ suc m * 1) (pow-succ' 2 k) h))
+    absurd (too-short (suc m) (2 ^ k) (pow-pos k) (fitting binary32 false m (negsuc k) t .short) (subst (λ (z : ℕ). 8388608 * z ≤ suc m * 1) (pow-succ' 2 k) h))
   where
-    clash : (m p : ℕ) → 0 < p → m < 2 ^ 24 → 8388608 * (2 * p) ≤ m * 1 → ⊥
-    clash m p P u l = omega arith
+    too-short : (m p : ℕ) → 0 < p → m < 2 ^ 24 → 8388608 * (2 * p) ≤ m * 1 → ⊥
+    too-short m p P u l = omega arith
 
 -- ---- x + 2 ^ 23 is 2 ^ 23 + w or one more, for the whole part w of x
 module _ (x : Float) (h : Within 1048577 1 x) where

@@ -28,24 +28,24 @@ module _ (m : ℕ) (e : ℤ) where
   unfolding neg
   opposite t = neg-fits binary32 (fin true m e) t
 
-  itself : (s : Bool) → T (fits binary32 (fin s m e)) → round binary32 s (m * up e) (down e) ≡ fin s m e
+  pub rounds-to-itself : (s : Bool) → T (fits binary32 (fin s m e)) → round binary32 s (m * up e) (down e) ≡ fin s m e
   unfolding neg
-  itself false t = round-self binary32 (fin false m e) t tt
-  itself true t = round-neg binary32 (m * up e) (down e) ∙ ap neg (round-self binary32 (fin false m e) (opposite t) tt)
+  rounds-to-itself false t = round-self binary32 (fin false m e) t tt
+  rounds-to-itself true t = round-neg binary32 (m * up e) (down e) ∙ ap neg (round-self binary32 (fin false m e) (opposite t) tt)
 
   rounded : (s : Bool) (a : ℕ) → T (fits binary32 (fin s m e)) → a ≡ m * up e → round binary32 s a (down e * 1) ≡ fin s m e
-  rounded s a t h = ap (λ (z : ℕ). round binary32 s z (down e * 1)) h ∙ ap (λ (z : ℕ). round binary32 s (m * up e) z) (once (down e)) ∙ itself s t
+  rounded s a t h = ap (λ (z : ℕ). round binary32 s z (down e * 1)) h ∙ ap (λ (z : ℕ). round binary32 s (m * up e) z) (once (down e)) ∙ rounds-to-itself s t
 
 -- ---- -0 added
 -- a / c, and nothing off it
 less-none : (a b c : ℕ) → b ≡ 0 → sum binary32 false a true b c ≡ round binary32 false a c
 unfolding sum
 less-none a b c h =
-    cond-no (ltb a b) (round binary32 true (b - a) c) (round binary32 false (a - b) c) (not-T (ltb a b) (λ (t : T (ltb a b)). none a b h (ltb→lt a b t)))
+    cond-no (ltb a b) (round binary32 true (b - a) c) (round binary32 false (a - b) c) (not-T (ltb a b) (λ (t : T (ltb a b)). not-under-zero a b h (ltb→lt a b t)))
     ∙ ap (λ (z : ℕ). round binary32 false z c) (off a b h)
   where
-    none : (a b : ℕ) → b ≡ 0 → a < b → ⊥
-    none a b h k = omega arith
+    not-under-zero : (a b : ℕ) → b ≡ 0 → a < b → ⊥
+    not-under-zero a b h k = omega arith
 
     off : (a b : ℕ) → b ≡ 0 → a - b ≡ a
     off a b h = omega arith

@@ -1,7 +1,7 @@
 -- Floats of either sign, by their size: finite, and at most a / c either way. What the operations do to such a bound. Assumes nothing.
 use mathlib.Core.Path.{sym, subst}
 use Prim.Native.Nat.{ℕ, suc, _+_, _-_, _*_, _≤_, _<_}
-use native.Mathlib.Nat.{le-trans, le-of-eq, add-mul, add-le-add, mul-comm, mul-assoc, mul-left-comm, mul-le-mul-right, mul-le-mul, mul-pos, mul-mul-mul-comm}
+use native.Mathlib.Nat.{le-trans, le-of-eq, mul-le-mul-right, mul-le-mul, mul-pos, mul-mul-mul-comm}
 use native.Mathlib.Omega.{arith}
 use mathlib.Core.Bool.{Bool, true, false, _&&_, cond, Bool·beq}
 use lib.IntN.{ℤ, pos, negsuc, natAbs}
@@ -11,7 +11,7 @@ use lib.Ieee.Fits.{down-pos}
 use lib.Ieee.Scale.{finite}
 use lib.Ieee.Positive.{through}
 use Rattle.float.specs.inner.Range.{plain, Within}
-use Rattle.float.proofs.Within.{Holds, round-within}
+use Rattle.float.proofs.Within.{Holds, round-within, fractions-add}
 use Rattle.float.proofs.Bounds.{round-neg}
 use Rattle.float.specs.inner.Range.{Mag}
 
@@ -50,12 +50,6 @@ sum-mag f s A t B D a c P C v h = go (Bool·beq s t) (ltb A B) (s && ltb B A)
     go false true z = round-mag f t (B - A) D a c P C v (le-trans (mul-le-mul-right c (other-way A B)) h)
     go false false z = round-mag f z (A - B) D a c P C v (le-trans (mul-le-mul-right c (one-way A B)) h)
 
-sum-of : (X Y dx dy a b c d : ℕ) → X * c ≤ a * dx → Y * d ≤ b * dy → (X * dy + Y * dx) * (c * d) ≤ (a * d + b * c) * (dx * dy)
-sum-of X Y dx dy a b c d h k =
-    let l : X * dy * (c * d) ≤ a * d * (dx * dy) = simp (mul-assoc, mul-comm, mul-left-comm) (simp (mul-assoc, mul-comm, mul-left-comm) at (mul-le-mul-right (dy * d) h)) in
-    let r : Y * dx * (c * d) ≤ b * c * (dx * dy) = simp (mul-assoc, mul-comm, mul-left-comm) (simp (mul-assoc, mul-comm, mul-left-comm) at (mul-le-mul-right (dx * c) k)) in
-    le-trans (le-of-eq (add-mul (X * dy) (Y * dx) (c * d))) (le-trans (add-le-add l r) (le-of-eq (sym (add-mul (a * d) (b * c) (dx * dy)))))
-
 pub add-mag : (f : Format) (x y : Float) (a c b d p q : ℕ) → 0 < c → 0 < d → 0 < q → Holds f p q → Mag a c x → Mag b d y → (a * d + b * c) * q ≤ p * (c * d) → Mag p q (add f x y)
 unfolding add
 add-mag f nan y a c b d p q C D Q v X Y h = absurd (X .finite-is)
@@ -64,7 +58,7 @@ add-mag f (fin s m e) nan a c b d p q C D Q v X Y h = absurd (Y .finite-is)
 add-mag f (fin s m e) (inf t) a c b d p q C D Q v X Y h = absurd (Y .finite-is)
 add-mag f (fin s m e) (fin t n g) a c b d p q C D Q v X Y h =
     sum-mag f s (m * up e * down g) t (n * up g * down e) (down e * down g) p q (mul-pos (down-pos e) (down-pos g)) Q v
-    (through (m * up e * down g + n * up g * down e) (a * d + b * c) p (down e * down g) (c * d) q (mul-pos C D) (sum-of (m * up e) (n * up g) (down e) (down g) a b c d (X .upper) (Y .upper)) h)
+    (through (m * up e * down g + n * up g * down e) (a * d + b * c) p (down e * down g) (c * d) q (mul-pos C D) (fractions-add (m * up e) (n * up g) (down e) (down g) a b c d (X .upper) (Y .upper)) h)
 
 -- ---- a product
 pub mul-mag : (f : Format) (x y : Float) (a c b d p q : ℕ) → 0 < c → 0 < d → 0 < q → Holds f p q → Mag a c x → Mag b d y → a * b * q ≤ p * (c * d) → Mag p q (mul f x y)

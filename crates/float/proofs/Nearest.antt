@@ -22,8 +22,8 @@ use Rattle.float.specs.Nearest.{NearestRoot}
 use Rattle.float.proofs.Within.{value-plain, value-cross, mul-is}
 use Rattle.float.proofs.Unique.{round-self}
 use Rattle.float.proofs.Bounds.{le-or-lt}
-use Rattle.float.proofs.Patterns.{place, val, val-normal, val-packed, pattern-is, plain-pattern, normal-range}
-use Rattle.float.proofs.RootLaws.{Root, root-is, root-range, scaled-even, scaled-odd, scaled-range}
+use Rattle.float.proofs.Patterns.{fieldsVal, val, val-normal, val-packed, pattern-is, plain-pattern, normal-range}
+use Rattle.float.proofs.RootLaws.{significand-small, Root, root-is, root-range, scaled-even, scaled-odd, scaled-range}
 use Rattle.float.proofs.Subnormal.{positive-plain, scaled-value, normal-scaled, normal-from}
 use Rattle.float.proofs.Operands.{positive-sqrt}
 
@@ -126,21 +126,21 @@ scaled-balance b l = go (b / 8388608 % 2) refl (below b)
     odd : (e : ℕ) → e % 2 ≡ 1 → (e + 1) / 2 + 62 + ((e + 1) / 2 + 62) + 25 ≡ e + 150
     odd e h = omega arith
 
-    not-zero : (a : ℕ) → a ≡ 1 → a ≡ 0 → ⊥
-    not-zero a h g = omega arith
+    one-not-zero : (a : ℕ) → a ≡ 1 → a ≡ 0 → ⊥
+    one-not-zero a h g = omega arith
 
     never : (d : ℕ) → suc (suc d) < 2 → ⊥
     never d h = omega arith
 
-    turn : (t : ℕ) → t + 8388608 ≡ 8388608 + t
-    turn t = omega arith
+    reordered : (t : ℕ) → t + 8388608 ≡ 8388608 + t
+    reordered t = omega arith
 
     shape : 4 * ((b % 8388608 + 8388608) * 2 ^ (b / 8388608 - 1) * 2 ^ 149) ≡ 4 * (val b * 2 ^ 149)
-    shape = ap (λ (m : ℕ). 4 * (m * 2 ^ (b / 8388608 - 1) * 2 ^ 149)) (turn (b % 8388608)) ∙ ap (λ (n : ℕ). 4 * (n * 2 ^ 149)) (sym (val-normal b l))
+    shape = ap (λ (m : ℕ). 4 * (m * 2 ^ (b / 8388608 - 1) * 2 ^ 149)) (reordered (b % 8388608)) ∙ ap (λ (n : ℕ). 4 * (n * 2 ^ 149)) (sym (val-normal b l))
 
     go : (d : ℕ) → b / 8388608 % 2 ≡ d → d < 2 → scaled b * (2 ^ half b * 2 ^ half b) ≡ 4 * (val b * 2 ^ 149)
     go zero h u = ap (λ (n : ℕ). n * (2 ^ half b * 2 ^ half b)) (scaled-even b h) ∙ balance (b % 8388608 + 8388608) (b / 8388608) (half b) 26 (one b l) (even (b / 8388608) h) ∙ shape
-    go (suc zero) h u = ap (λ (n : ℕ). n * (2 ^ half b * 2 ^ half b)) (scaled-odd b (not-zero (b / 8388608 % 2) h)) ∙ balance (b % 8388608 + 8388608) (b / 8388608) (half b) 25 (one b l) (odd (b / 8388608) h) ∙ shape
+    go (suc zero) h u = ap (λ (n : ℕ). n * (2 ^ half b * 2 ^ half b)) (scaled-odd b (one-not-zero (b / 8388608 % 2) h)) ∙ balance (b % 8388608 + 8388608) (b / 8388608) (half b) 25 (one b l) (odd (b / 8388608) h) ∙ shape
     go (suc (suc d)) h u = absurd (never d u)
 
 -- ---- the root of Y squares of units is at least 2 ^ 23 * 2 ^ k units, and within less than a half of h, in units of 2 ^ k
@@ -161,7 +161,7 @@ normal-rounds b l =
     let e : N * Q ≡ 4 * (val b * 2 ^ 149) = scaled-balance b l in
     let t = rounded N r (scaled-twos b) (lt-of-lt-of-le (lit< tt) (rr .0)) (root-is N (lt-of-lt-of-le (s .1) (lit≤ tt))) in
     record {
-      digits = (lo r (rr .0), hi r (rr .1));
+      digits = (lo r (rr .0), significand-small b);
       from = quarter-le Q (val b * 2 ^ 149) (le-trans (mul-le-mul-right Q (s .0)) (le-of-eq e));
       low = lt-of-lt-of-le (mul-lt-mul-of-pos-right (t .0) P) (le-of-eq e);
       high = lt-of-le-of-lt (le-of-eq (sym e)) (mul-lt-mul-of-pos-right (t .1) P);
@@ -170,14 +170,11 @@ normal-rounds b l =
     lo : (r : ℕ) → 16777216 ≤ r → 8388608 ≤ (r + 1) / 2
     lo r h = omega arith
 
-    hi : (r : ℕ) → r < 33554432 → (r + 1) / 2 ≤ 16777216
-    hi r h = omega arith
-
     quarter-le : (q y : ℕ) → 2 ^ 48 * q ≤ 4 * y → 8388608 * 8388608 * q ≤ y
     quarter-le q y h = omega arith
 
 -- the pattern that is made lies below the infinity's
-made-under : (b h : ℕ) → b < 2139095040 → h ≤ 16777216 → ((b / 8388608 + 1) / 2 + 62) * 8388608 + h < 2139095040
+pub made-under : (b h : ℕ) → b < 2139095040 → h ≤ 16777216 → ((b / 8388608 + 1) / 2 + 62) * 8388608 + h < 2139095040
 made-under b h u v = omega arith
 
 normal-result : (x : Float) → T (fits binary32 x) → T (normal x) → let b = toBits binary32 x in HasValue (normalRoot x) false (significand b * 2 ^ half b) (2 ^ 149)
@@ -193,9 +190,9 @@ value-same y a c b d v w =
     eq-of-mul-eq-mul-right (den y) (den-pos y) (a * d) (b * c)
     (mul-right-comm a d (den y) ∙ ap (λ (z : ℕ). z * d) (sym (value-cross y a c v)) ∙ mul-right-comm (num y) c d ∙ ap (λ (z : ℕ). z * c) (value-cross y b d w) ∙ mul-right-comm b (den y) c)
 
-place-grid : (x t k : ℕ) → t < 8388608 → 8388608 * 2 ^ k ≤ place x t → (q : ℕ) × (place x t ≡ q * 2 ^ k)
-place-grid zero t k u h = absurd (not-le-of-lt u (le-trans (le-trans (le-of-eq (sym (mul-one 8388608))) (mul-le-mul-left 8388608 (pow-pos k))) h))
-place-grid (suc x) t k u h =
+fieldsVal-grid : (x t k : ℕ) → t < 8388608 → 8388608 * 2 ^ k ≤ fieldsVal x t → (q : ℕ) × (fieldsVal x t ≡ q * 2 ^ k)
+fieldsVal-grid zero t k u h = absurd (not-le-of-lt u (le-trans (le-trans (le-of-eq (sym (mul-one 8388608))) (mul-le-mul-left 8388608 (pow-pos k))) h))
+fieldsVal-grid (suc x) t k u h =
     let l : 8388608 * 2 ^ k < 8388608 * 2 ^ suc x = lt-of-le-of-lt h (lt-of-lt-of-le (mul-lt-mul-of-pos-right (more t u) (pow-pos x)) (le-of-eq (mul-assoc 8388608 2 (2 ^ x) ∙ ap (λ (z : ℕ). 8388608 * z) (mul-comm 2 (2 ^ x) ∙ sym (pow-suc 2 x))))) in
     let K : k ≤ x = le-of-suc-le-suc (exponent k (suc x) (lt-of-mul-lt-mul-left 8388608 l)) in
     ((8388608 + t) * 2 ^ (x - k), ap (λ (z : ℕ). (8388608 + t) * 2 ^ z) (sym (sub-add-cancel K)) ∙ ap (λ (z : ℕ). (8388608 + t) * z) (pow-add 2 (x - k) k) ∙ sym (mul-assoc (8388608 + t) (2 ^ (x - k)) (2 ^ k)))
@@ -211,7 +208,7 @@ float-grid y Y k t v h =
     let n = toBits binary32 y in
     let w : HasValue y false (val n) (2 ^ 149) = plain-pattern y t (value-plain y Y (2 ^ 149) v) .1 in
     let e : Y ≡ val n = eq-of-mul-eq-mul-right (2 ^ 149) (pow-pos 149) Y (val n) (value-same y Y (2 ^ 149) (val n) (2 ^ 149) v w) in
-    let g = place-grid (n / 8388608) (n % 8388608) k (mod-lt n (lit< tt)) (le-trans h (le-of-eq e)) in
+    let g = fieldsVal-grid (n / 8388608) (n % 8388608) k (mod-lt n (lit< tt)) (le-trans h (le-of-eq e)) in
     (g .0, e ∙ g .1)
 
 -- ---- so a float that is not r is farther from the root than r
@@ -293,10 +290,10 @@ scaled-number x X Y v w u =
 
 -- 2 ^ k units down by 2 ^ 12: their squares by 2 ^ 24
 down-squares : (a j : ℕ) → a * (2 ^ (j + 12) * 2 ^ (j + 12)) ≡ 2 ^ 24 * (a * (2 ^ j * 2 ^ j))
-down-squares a j = ap (λ (z : ℕ). a * (z * z)) (pow-add 2 j 12) ∙ turn a (2 ^ j)
+down-squares a j = ap (λ (z : ℕ). a * (z * z)) (pow-add 2 j 12) ∙ reordered a (2 ^ j)
   where
-    turn : (a q : ℕ) → a * (q * 4096 * (q * 4096)) ≡ 16777216 * (a * (q * q))
-    turn a q = ap (λ (z : ℕ). a * z) (mul-right-comm q 4096 (q * 4096) ∙ ap (λ (z : ℕ). z * 4096) (sym (mul-assoc q q 4096)) ∙ mul-assoc (q * q) 4096 4096) ∙ sym (mul-assoc a (q * q) 16777216) ∙ mul-comm (a * (q * q)) 16777216
+    reordered : (a q : ℕ) → a * (q * 4096 * (q * 4096)) ≡ 16777216 * (a * (q * q))
+    reordered a q = ap (λ (z : ℕ). a * z) (mul-right-comm q 4096 (q * 4096) ∙ ap (λ (z : ℕ). z * 4096) (sym (mul-assoc q q 4096)) ∙ mul-assoc (q * q) 4096 4096) ∙ sym (mul-assoc a (q * q) 16777216) ∙ mul-comm (a * (q * q)) 16777216
 
 down-rounds : (Y h j : ℕ) → Rounds (2 ^ 24 * Y) h (j + 12) → Rounds Y h j
 down-rounds Y h j d = record {
@@ -319,7 +316,7 @@ down-result s h j l u k v =
     (ap (λ (n : ℕ). n * den z * 2 ^ 149) (mul-one (num s))
     ∙ mul-right-comm (num s) (den z) (2 ^ 149)
     ∙ ap (λ (n : ℕ). n * den z) (value-cross s (h * 2 ^ (j + 12)) (2 ^ 149) v ∙ ap (λ (n : ℕ). h * n * den s) (pow-add 2 j 12))
-    ∙ turn h (2 ^ j) (den s) (den z)
+    ∙ reordered h (2 ^ j) (den s) (den z)
     ∙ ap (λ (n : ℕ). n * (den s * 4096)) (sym (value-cross z (h * 2 ^ j) (2 ^ 149) w))
     ∙ mul-right-comm (num z) (2 ^ 149) (den s * 4096)) in
     subst (λ (y : Float). HasValue y false (h * 2 ^ j) (2 ^ 149))
@@ -328,8 +325,8 @@ down-result s h j l u k v =
     ∙ round-self binary32 z (ofBits-fits binary32 (j * 8388608 + h)) q))
     w
   where
-    turn : (h q a b : ℕ) → h * (q * 4096) * a * b ≡ h * q * b * (a * 4096)
-    turn h q a b =
+    reordered : (h q a b : ℕ) → h * (q * 4096) * a * b ≡ h * q * b * (a * 4096)
+    reordered h q a b =
         ap (λ (n : ℕ). n * a * b) (sym (mul-assoc h q 4096))
         ∙ ap (λ (n : ℕ). n * b) (mul-assoc (h * q) 4096 a)
         ∙ mul-right-comm (h * q) (4096 * a) b

@@ -48,39 +48,39 @@ not-level s m e h =
     let k : a ≡ 0 = eqb→eq a (0 * 1 * down e) (and-l (eqb a (0 * 1 * down e)) (Bool·beq s false || eqb a 0) (subst T (sym h) tt)) ∙ zero-left e in
     lt-irrefl 0 (subst (λ (z : ℕ). 0 < z) k (more-right m e))
 
-is-level : (s : Bool) (e : ℤ) → eq (fin s zero e) plusZero ≡ true
+pub level-zero : (s : Bool) (e : ℤ) → eq (fin s zero e) plusZero ≡ true
 unfolding eq
-is-level s e = ap (λ (z : ℕ). eqb z (0 * 1 * down e) && (Bool·beq s false || eqb z 0)) (zero-right e) ∙ ap (λ (z : ℕ). eqb 0 z && (Bool·beq s false || true)) (zero-left e) ∙ last s
+level-zero s e = ap (λ (z : ℕ). eqb z (0 * 1 * down e) && (Bool·beq s false || eqb z 0)) (zero-right e) ∙ ap (λ (z : ℕ). eqb 0 z && (Bool·beq s false || true)) (zero-left e) ∙ last s
   where
     last : (s : Bool) → (true && (Bool·beq s false || true)) ≡ true
     last true = refl
     last false = refl
 
-apart : (s : Bool) (m : ℕ) (e : ℤ) → eq (fin s (suc m) e) plusZero ≡ false
-apart s m e = is-false (eq (fin s (suc m) e) plusZero) (not-T (eq (fin s (suc m) e) plusZero) (λ t. not-level s m e (is-true (eq (fin s (suc m) e) plusZero) t)))
+pub level-some : (s : Bool) (m : ℕ) (e : ℤ) → eq (fin s (suc m) e) plusZero ≡ false
+level-some s m e = is-false (eq (fin s (suc m) e) plusZero) (not-T (eq (fin s (suc m) e) plusZero) (λ t. not-level s m e (is-true (eq (fin s (suc m) e) plusZero) t)))
 
-clash : {A : Type 0} → true ≡ false → A
-clash h = absurd (subst T h tt)
+pub true-is-false : {A : Type 0} → true ≡ false → A
+true-is-false h = absurd (subst T h tt)
 
 pub sqrt-positive : (x : Float) → lt plusZero x ≡ true → finite x ≡ true → T (positive x) × (sqrt x ≡ positiveRoot x)
 unfolding lt sqrt
-sqrt-positive nan h k = clash (sym k)
-sqrt-positive (inf s) h k = clash (sym k)
-sqrt-positive (fin true m e) h k = clash (sym h)
+sqrt-positive nan h k = true-is-false (sym k)
+sqrt-positive (inf s) h k = true-is-false (sym k)
+sqrt-positive (fin true m e) h k = true-is-false (sym h)
 sqrt-positive (fin false zero e) h k = absurd (not-above e h)
 sqrt-positive (fin false (suc m) e) h k = (lt→ltb 0 (suc m) (zero-lt-suc m), refl)
 
 pub sqrt-infinite : (x : Float) → lt plusZero x ≡ true → finite x ≡ false → sqrt x ≡ x
 unfolding lt sqrt
-sqrt-infinite nan h k = clash (sym h)
-sqrt-infinite (inf true) h k = clash (sym h)
+sqrt-infinite nan h k = true-is-false (sym h)
+sqrt-infinite (inf true) h k = true-is-false (sym h)
 sqrt-infinite (inf false) h k = refl
-sqrt-infinite (fin s m e) h k = clash k
+sqrt-infinite (fin s m e) h k = true-is-false k
 
 pub sqrt-zero : (x : Float) → eq x plusZero ≡ true → sqrt x ≡ x
 unfolding eq sqrt
 sqrt-zero nan h = refl
-sqrt-zero (inf s) h = clash (sym h)
+sqrt-zero (inf s) h = true-is-false (sym h)
 sqrt-zero (fin s zero e) h = refl
 sqrt-zero (fin s (suc m) e) h = absurd (not-level s m e h)
 
@@ -88,10 +88,10 @@ pub sqrt-none : (x : Float) → lt plusZero x ≡ false → eq x plusZero ≡ fa
 unfolding lt eq sqrt
 sqrt-none nan h k = refl
 sqrt-none (inf true) h k = refl
-sqrt-none (inf false) h k = clash h
-sqrt-none (fin s zero e) h k = clash (sym (is-level s e) ∙ k)
+sqrt-none (inf false) h k = true-is-false h
+sqrt-none (fin s zero e) h k = true-is-false (sym (level-zero s e) ∙ k)
 sqrt-none (fin true (suc m) e) h k = refl
-sqrt-none (fin false (suc m) e) h k = clash (sym (is-above m e) ∙ h)
+sqrt-none (fin false (suc m) e) h k = true-is-false (sym (is-above m e) ∙ h)
 
 -- a positive float is above the zero, and its root is the positive one
 pub positive-sqrt : (x : Float) → T (positive x) → sqrt x ≡ positiveRoot x
@@ -108,7 +108,7 @@ positive-apart nan p = absurd p
 positive-apart (inf s) p = absurd p
 positive-apart (fin true m e) p = absurd p
 positive-apart (fin false zero e) p = absurd p
-positive-apart (fin false (suc m) e) p = apart false m e
+positive-apart (fin false (suc m) e) p = level-some false m e
 
 pub other-alike : (x : Float) → (T (positive x) → ⊥) → eq (sqrt x) plusZero ≡ eq x plusZero
 unfolding sqrt eq
@@ -116,7 +116,7 @@ other-alike nan p = refl
 other-alike (inf true) p = refl
 other-alike (inf false) p = refl
 other-alike (fin s zero e) p = refl
-other-alike (fin true (suc m) e) p = sym (apart true m e)
+other-alike (fin true (suc m) e) p = sym (level-some true m e)
 other-alike (fin false (suc m) e) p = absurd (p (lt→ltb 0 (suc m) (zero-lt-suc m)))
 
 -- ---- between the smallest normal float and the largest of all
@@ -125,9 +125,9 @@ largest = fin false 16777215 (pos 104)
 
 between-finite : (x : Float) → le smallest x ≡ true → le x largest ≡ true → T (finite x)
 unfolding le lt eq
-between-finite nan h k = clash (sym h)
-between-finite (inf true) h k = clash (sym h)
-between-finite (inf false) h k = clash (sym k)
+between-finite nan h k = true-is-false (sym h)
+between-finite (inf true) h k = true-is-false (sym h)
+between-finite (inf false) h k = true-is-false (sym k)
 between-finite (fin s m e) h k = tt
 
 positive-from : (x : Float) → T (plain x) → 0 < num x → T (positive x)

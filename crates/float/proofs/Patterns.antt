@@ -25,16 +25,16 @@ either n a = elim (le-or-lt a n) [ inl h ↦ inr h | inr h ↦ inl h ]
 
 -- ---- the number of a pattern
 -- by the exponent's field and the 23 digits below it; the field 0 has no leading digit
-abbrev pub place : ℕ → ℕ → ℕ
-place zero t = t
-place (suc x) t = (8388608 + t) * 2 ^ x
+abbrev pub fieldsVal : ℕ → ℕ → ℕ
+fieldsVal zero t = t
+fieldsVal (suc x) t = (8388608 + t) * 2 ^ x
 
 abbrev pub val : ℕ → ℕ
-val n = place (n / 8388608) (n % 8388608)
+val n = fieldsVal (n / 8388608) (n % 8388608)
 
 -- below 2 ^ 23, at the subnormal floats, the pattern is the number
 pub val-small : (n : ℕ) → n < 8388608 → val n ≡ n
-val-small n h = ap (λ (x : ℕ). place x (n % 8388608)) (field n h) ∙ digits n h
+val-small n h = ap (λ (x : ℕ). fieldsVal x (n % 8388608)) (field n h) ∙ digits n h
   where
     field : (n : ℕ) → n < 8388608 → n / 8388608 ≡ 0
     field n h = omega arith
@@ -44,7 +44,7 @@ val-small n h = ap (λ (x : ℕ). place x (n % 8388608)) (field n h) ∙ digits 
 
 -- from 2 ^ 23 on there is a leading digit
 pub val-normal : (n : ℕ) → 8388608 ≤ n → val n ≡ (8388608 + n % 8388608) * 2 ^ (n / 8388608 - 1)
-val-normal n h = ap (λ (x : ℕ). place x (n % 8388608)) (field n h)
+val-normal n h = ap (λ (x : ℕ). fieldsVal x (n % 8388608)) (field n h)
   where
     field : (n : ℕ) → 8388608 ≤ n → n / 8388608 ≡ suc (n / 8388608 - 1)
     field n h = omega arith
@@ -63,8 +63,8 @@ val-packed k h l u = go (either h 16777216)
     twice k = ap (λ (z : ℕ). 8388608 * z) (pow-suc 2 k ∙ mul-comm (2 ^ k) 2) ∙ sym (mul-assoc 8388608 2 (2 ^ k))
 
     go : (h < 16777216) ⊎ (16777216 ≤ h) → val (k * 8388608 + h) ≡ h * 2 ^ k
-    go (inl s) = let e = short k h l s in ap (λ (x : ℕ). place x ((k * 8388608 + h) % 8388608)) (e .0) ∙ ap (λ (m : ℕ). m * 2 ^ k) (e .1)
-    go (inr s) = let e = long k h u s in ap (λ (x : ℕ). place x ((k * 8388608 + h) % 8388608)) (e .0) ∙ ap (λ (t : ℕ). place (suc (suc k)) t) (e .1) ∙ twice k ∙ ap (λ (m : ℕ). m * 2 ^ k) (e .2)
+    go (inl s) = let e = short k h l s in ap (λ (x : ℕ). fieldsVal x ((k * 8388608 + h) % 8388608)) (e .0) ∙ ap (λ (m : ℕ). m * 2 ^ k) (e .1)
+    go (inr s) = let e = long k h u s in ap (λ (x : ℕ). fieldsVal x ((k * 8388608 + h) % 8388608)) (e .0) ∙ ap (λ (t : ℕ). fieldsVal (suc (suc k)) t) (e .1) ∙ twice k ∙ ap (λ (m : ℕ). m * 2 ^ k) (e .2)
 
 -- ---- from a pattern to its float
 fields : (n : ℕ) → ofBits binary32 n ≡ ofFields binary32 (leb 2147483648 n) (n % 2147483648 / 8388608) (n % 8388608)
@@ -75,22 +75,22 @@ fields n = refl
 clear-fields : (n : ℕ) → n < 2147483648 → ofBits binary32 n ≡ ofFields binary32 false (n / 8388608) (n % 8388608)
 clear-fields n h =
     fields n
-    ∙ ap (λ (s : Bool). ofFields binary32 s (n % 2147483648 / 8388608) (n % 8388608)) (is-false (leb 2147483648 n) (not-T (leb 2147483648 n) (λ (t : T (leb 2147483648 n)). clash n h (leb→le 2147483648 n t))))
+    ∙ ap (λ (s : Bool). ofFields binary32 s (n % 2147483648 / 8388608) (n % 8388608)) (is-false (leb 2147483648 n) (not-T (leb 2147483648 n) (λ (t : T (leb 2147483648 n)). not-both n h (leb→le 2147483648 n t))))
     ∙ ap (λ (x : ℕ). ofFields binary32 false x (n % 8388608)) (field n h)
   where
-    clash : (n : ℕ) → n < 2147483648 → 2147483648 ≤ n → ⊥
-    clash n h k = omega arith
+    not-both : (n : ℕ) → n < 2147483648 → 2147483648 ≤ n → ⊥
+    not-both n h k = omega arith
 
     field : (n : ℕ) → n < 2147483648 → n % 2147483648 / 8388608 ≡ n / 8388608
     field n h = omega arith
 
-fields-value : (x t : ℕ) → x < 255 → HasValue (ofFields binary32 false x t) false (place x t) (2 ^ 149)
+fields-value : (x t : ℕ) → x < 255 → HasValue (ofFields binary32 false x t) false (fieldsVal x t) (2 ^ 149)
 unfolding ofFields
 fields-value zero t h = subst (λ (n : ℕ). HasValue (odd 24 false t 0 149) false n (2 ^ 149)) (mul-one t) (odd-sign 24 false t 0 149)
-fields-value (suc x) t h = go (eqb (suc x) 255) (λ (u : T (eqb (suc x) 255)). clash x h (eqb→eq (suc x) 255 u))
+fields-value (suc x) t h = go (eqb (suc x) 255) (λ (u : T (eqb (suc x) 255)). not-both x h (eqb→eq (suc x) 255 u))
   where
-    clash : (x : ℕ) → suc x < 255 → suc x ≡ 255 → ⊥
-    clash x h e = omega arith
+    not-both : (x : ℕ) → suc x < 255 → suc x ≡ 255 → ⊥
+    not-both x h e = omega arith
 
     go : (b : Bool) → (T b → ⊥) → HasValue (cond b (cond (eqb t 0) (inf false) nan) (odd 24 false (8388608 + t) x 149)) false ((8388608 + t) * 2 ^ x) (2 ^ 149)
     go true f = absurd (f tt)
@@ -132,14 +132,14 @@ plain-under n p = go (either n 2139095040) (either n 2147483648)
     field : (n : ℕ) → 2139095040 ≤ n → n < 2147483648 → n / 8388608 ≡ 255
     field n h k = omega arith
 
-    clash : plain (ofBits binary32 n) ≡ false → n < 2139095040
-    clash h = absurd (subst T h p)
+    not-plain : plain (ofBits binary32 n) ≡ false → n < 2139095040
+    not-plain h = absurd (subst T h p)
 
     go : (n < 2139095040) ⊎ (2139095040 ≤ n) → (n < 2147483648) ⊎ (2147483648 ≤ n) → n < 2139095040
     go (inl h) k = h
-    go (inr h) (inl k) = clash (ap plain (clear-fields n k ∙ ap (λ (x : ℕ). ofFields binary32 false x (n % 8388608)) (field n h k)) ∙ top-not-plain (n % 8388608))
+    go (inr h) (inl k) = not-plain (ap plain (clear-fields n k ∙ ap (λ (x : ℕ). ofFields binary32 false x (n % 8388608)) (field n h k)) ∙ top-not-plain (n % 8388608))
     go (inr h) (inr k) =
-        clash
+        not-plain
         (ap plain (fields n ∙ ap (λ (s : Bool). ofFields binary32 s (n % 2147483648 / 8388608) (n % 8388608)) (is-true (leb 2147483648 n) (le→leb 2147483648 n k)))
         ∙ signed-not-plain (n % 2147483648 / 8388608) (n % 8388608))
 

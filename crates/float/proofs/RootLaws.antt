@@ -1,11 +1,11 @@
 -- The whole part of a root, and the numbers whose root the square root of a float takes. Assumes nothing.
 use mathlib.Core.Path.{_≡_, sym, ap, _∙_, subst}
 use Prim.Native.Nat.{ℕ, zero, suc, _+_, _*_, _/_, _%_, _^_, _≤_, _<_}
-use native.Mathlib.Nat.{le-trans, le-antisymm, mul-le-mul, lt-of-not-le, not-le-of-lt, le-of-suc-le-suc, two-pow-succ, add-assoc, mul-add, add-mul, mul-mul-mul-comm}
+use native.Mathlib.Nat.{le-trans, le-antisymm, mul-le-mul, lt-of-not-le, lt-of-le-of-lt, not-le-of-lt, le-of-suc-le-suc, two-pow-succ, add-assoc, mul-add, add-mul, mul-mul-mul-comm}
 use native.Mathlib.Omega.{arith}
 use mathlib.Core.Logic.{_⊎_, inl, inr}
 use mathlib.Core.Bool.{Bool, true, false, not, cond}
-use lib.Dec.{T, leb, eqb, leb→le, nleb→lt}
+use lib.Dec.{T, leb, eqb, leb→le, nleb→lt, lit<}
 use borrow.Author.Tests.{eq-eqb, ne-eqb}
 use Rattle.float.specs.Root.{grown, root}
 use Rattle.float.specs.Sqrt.{scaled, significand}
@@ -100,11 +100,15 @@ short n k l u =
     twice : (k : ℕ) → 2 * k + 1 + 1 ≡ 2 * (k + 1)
     twice k = omega arith
 
+-- the square of what `nearest` may try
+pub square-fits : (h : ℕ) → h ≤ 16777216 → h * h < 2 ^ 64
+square-fits h u = lt-of-le-of-lt (mul-le-mul u u) (lit< tt)
+
 -- LAW: h is the whole number nearest to the root of n
-pub nearest-is : (n h : ℕ) → n < 2 ^ 50 → h * h < n + h → n ≤ h * h + h → h ≡ (root (4 * n) + 1) / 2
+pub nearest-is : (n h : ℕ) → n < 2 ^ 48 → h * h < n + h → n ≤ h * h + h → h ≡ (root (4 * n) + 1) / 2
 nearest-is n h w l u = go h l u (le-or-lt (h * h) n)
   where
-    wide : (n : ℕ) → n < 2 ^ 50 → 4 * n < 2 ^ 52
+    wide : (n : ℕ) → n < 2 ^ 48 → 4 * n < 2 ^ 52
     wide n w = omega arith
 
     even : (h r : ℕ) → 2 * h ≡ r → h ≡ (r + 1) / 2

@@ -1,21 +1,18 @@
 -- A product with a power of two is exact, where it does not overflow. Assumes nothing.
 use mathlib.Core.Path.{_≡_, sym, ap, _∙_, subst}
 use Prim.Native.Nat.{ℕ, zero, suc, _+_, _-_, _*_, _^_, _≤_, _<_}
-use native.Mathlib.Nat.{le-of-eq, lt-of-lt-of-le, lt-of-le-of-lt, mul-comm, mul-assoc, mul-right-comm, mul-lt-mul-of-pos-right, mul-one, one-mul, zero-mul, sub-add-cancel, zero-lt-suc, not-le-of-lt, lt-of-not-le, le-of-suc-le-suc, lt-of-mul-lt-mul-right}
+use native.Mathlib.Nat.{le-of-eq, lt-of-lt-of-le, lt-of-le-of-lt, mul-comm, mul-assoc, mul-right-comm, mul-lt-mul-of-pos-right, mul-one, one-mul, zero-mul, sub-add-cancel, zero-lt-suc, lt-of-mul-lt-mul-right}
 use mathlib.Core.Bool.{true, false}
 use lib.IntN.{ℤ, pos, negsuc}
 use lib.Dec.{T}
-use lib.Pow.{pow-pos, pow-add, pow-lt}
+use lib.Pow.{pow-pos, pow-add}
 use lib.Ieee.{Float, nan, inf, fin, Format, prec, emax, low, up, down, round, mul, fits}
 use lib.Ieee.Fits.{down-pos}
 use lib.Ieee.Exact.{HasValue, round-exact}
 use lib.Ieee.Positive.{num, den, den-pos}
 use lib.Ieee.Scale.{round-same}
 use Rattle.float.specs.inner.Range.{plain}
-use Rattle.float.proofs.Within.{mul-is, fitting}
-
-pow-le-back : (i j : ℕ) → 2 ^ i ≤ 2 ^ j → i ≤ j
-pow-le-back i j h = le-of-suc-le-suc (lt-of-not-le (λ (g : suc j ≤ i). not-le-of-lt (pow-lt g) h))
+use Rattle.float.proofs.Within.{mul-is, fitting, pow-le-back}
 
 -- m * 2 ^ e * 2 ^ t
 shifted : (f : Format) (m : ℕ) (e : ℤ) (t : ℕ) → m < 2 ^ prec f → down e ≤ 2 ^ low f → m * up e * 2 ^ t < 2 ^ suc (emax f) * down e → HasValue (round f false (m * up e * 2 ^ t) (down e)) false (m * up e * 2 ^ t) (down e)

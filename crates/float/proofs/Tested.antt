@@ -1,6 +1,6 @@
 -- A float that passes the test of `fault` is the root. Assumes nothing.
 use mathlib.Core.Path.{_≡_, sym, ap, _∙_, subst}
-use Prim.Native.Nat.{ℕ, _+_, _-_, _*_, _/_, _%_, _^_, _≤_, _<_}
+use Prim.Native.Nat.{ℕ, _+_, _-_, _*_, _/_, _%_, _≤_, _<_}
 use native.Mathlib.Nat.{mul-le-mul}
 use native.Mathlib.Omega.{arith}
 use mathlib.Core.Bool.{Bool, true, false, cond}
@@ -55,11 +55,8 @@ whole-pattern b p h u v e l = go ((b + 8388608) / 16777216) (few b u) (halved b)
 -- LAW: no fault in the square, and p is the pattern of the root
 pub faultless : (b p n h : ℕ) → b < 2147483648 → p < 2147483648 → 4 * n ≡ scaled b → beyond b p ≡ h → h * h < n + h → n ≤ h * h + h → p ≡ rootBits b
 faultless b p n h u v e d l k =
-    let s : h ≡ significand b = is-significand n b h e (nearest-is n h (wide n (quartered n b e .0)) l k) in
+    let s : h ≡ significand b = is-significand n b h e (nearest-is n h (quartered n b e .0) l k) in
     whole-pattern b p (significand b) u v (d ∙ s) (significand-small b)
-  where
-    wide : (n : ℕ) → n < 2 ^ 48 → n < 2 ^ 50
-    wide n h = omega arith
 
 -- ---- LAW: a float with the pattern of the root is the root
 root-from-bits : (x y : Float) → T (fits binary32 y) → toBits binary32 y ≡ rootBits (toBits binary32 x) → y ≡ normalRoot x

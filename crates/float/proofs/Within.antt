@@ -125,14 +125,14 @@ unfolding mul
 mul-is f x y p q = on-plains (λ (v w : Float). mul f v w ≡ round f false (num v * num w) (den v * den w)) (λ (m : ℕ) (e : ℤ) (n : ℕ) (d : ℤ). refl) x y p q
 
 -- by a divisor that is not 0
-not-zero : (m u : ℕ) → 0 < m * u → T (eqb m 0) → ⊥
-not-zero m u h t = not-le-of-lt h (le-of-eq (ap (λ (k : ℕ). k * u) (eqb→eq m 0 t) ∙ zero-mul u))
+factor-not-zero : (m u : ℕ) → 0 < m * u → T (eqb m 0) → ⊥
+factor-not-zero m u h t = not-le-of-lt h (le-of-eq (ap (λ (k : ℕ). k * u) (eqb→eq m 0 t) ∙ zero-mul u))
 
 pub div-is : (f : Format) (x y : Float) → T (plain x) → T (plain y) → 0 < num y → div f x y ≡ round f false (num x * den y) (num y * den x)
 unfolding div
 div-is f x y p q =
     on-plains (λ (v w : Float). 0 < num w → div f v w ≡ round f false (num v * den w) (num w * den v))
-    (λ (m : ℕ) (e : ℤ) (n : ℕ) (d : ℤ) (h : 0 < n * up d). cond-no (eqb n 0) (cond (eqb m 0) nan (inf false)) (round f false (m * up e * down d) (n * up d * down e)) (not-T (eqb n 0) (not-zero n (up d) h)))
+    (λ (m : ℕ) (e : ℤ) (n : ℕ) (d : ℤ) (h : 0 < n * up d). cond-no (eqb n 0) (cond (eqb m 0) nan (inf false)) (round f false (m * up e * down d) (n * up d * down e)) (not-T (eqb n 0) (factor-not-zero n (up d) h)))
     x y p q
 
 -- x - y for y ≤ x: the sign is clear, of an exact zero too
@@ -148,8 +148,8 @@ sub-is f x y p q =
     x y p q
 
 -- ---- bounds through the operations: p / q is a bound that the format holds
-sum-of : (X Y dx dy a b c d : ℕ) → X * c ≤ a * dx → Y * d ≤ b * dy → (X * dy + Y * dx) * (c * d) ≤ (a * d + b * c) * (dx * dy)
-sum-of X Y dx dy a b c d h k =
+pub fractions-add : (X Y dx dy a b c d : ℕ) → X * c ≤ a * dx → Y * d ≤ b * dy → (X * dy + Y * dx) * (c * d) ≤ (a * d + b * c) * (dx * dy)
+fractions-add X Y dx dy a b c d h k =
     let l : X * dy * (c * d) ≤ a * d * (dx * dy) = simp (mul-assoc, mul-comm, mul-left-comm) (simp (mul-assoc, mul-comm, mul-left-comm) at (mul-le-mul-right (dy * d) h)) in
     let r : Y * dx * (c * d) ≤ b * c * (dx * dy) = simp (mul-assoc, mul-comm, mul-left-comm) (simp (mul-assoc, mul-comm, mul-left-comm) at (mul-le-mul-right (dx * c) k)) in
     le-trans (le-of-eq (add-mul (X * dy) (Y * dx) (c * d))) (le-trans (add-le-add l r) (le-of-eq (sym (add-mul (a * d) (b * c) (dx * dy)))))
@@ -159,7 +159,7 @@ add-within f x y a c b d p q C D Q v X Y h =
     subst (λ (z : Float). Within p q z) (sym (add-is f x y (X .plain-is) (Y .plain-is)))
     (round-within f (num x * den y + num y * den x) (den x * den y) p q (mul-pos (den-pos x) (den-pos y)) Q v
     (through (num x * den y + num y * den x) (a * d + b * c) p (den x * den y) (c * d) q (mul-pos C D)
-    (sum-of (num x) (num y) (den x) (den y) a b c d (X .upper) (Y .upper)) h))
+    (fractions-add (num x) (num y) (den x) (den y) a b c d (X .upper) (Y .upper)) h))
 
 pub mul-within : (f : Format) (x y : Float) (a c b d p q : ℕ) → 0 < c → 0 < d → 0 < q → Holds f p q → Within a c x → Within b d y → a * b * q ≤ p * (c * d) → Within p q (mul f x y)
 mul-within f x y a c b d p q C D Q v X Y h =
@@ -174,10 +174,10 @@ div-within f x y a c b d p q C B Q v X Y N L h =
     subst (λ (z : Float). Within p q z) (sym (div-is f x y (X .plain-is) Y N))
     (round-within f (num x * den y) (num y * den x) p q (mul-pos N (den-pos x)) Q v
     (through (num x * den y) (a * d) p (num y * den x) (c * b) q (mul-pos C B)
-    (le-trans (le-of-eq (mul-mul-mul-comm (num x) (den y) c b)) (le-trans (mul-le-mul (X .upper) (le-trans (le-of-eq (mul-comm (den y) b)) L)) (le-of-eq (turn a (den x) (num y) d)))) h))
+    (le-trans (le-of-eq (mul-mul-mul-comm (num x) (den y) c b)) (le-trans (mul-le-mul (X .upper) (le-trans (le-of-eq (mul-comm (den y) b)) L)) (le-of-eq (reordered a (den x) (num y) d)))) h))
   where
-    turn : (a x n d : ℕ) → a * x * (n * d) ≡ a * d * (n * x)
-    turn a x n d = simp (mul-assoc, mul-comm, mul-left-comm)
+    reordered : (a x n d : ℕ) → a * x * (n * d) ≡ a * d * (n * x)
+    reordered a x n d = simp (mul-assoc, mul-comm, mul-left-comm)
 
 -- x - y for y ≤ x
 pub sub-within : (f : Format) (x y : Float) (a c p q : ℕ) → 0 < c → 0 < q → Holds f p q → Within a c x → T (plain y) → num y * den x ≤ num x * den y → a * q ≤ p * c → Within p q (sub f x y)
@@ -191,7 +191,7 @@ sub-within f x y a c p q C Q v X Y L h =
     less a b = omega arith
 
 -- ---- a value that the format holds
-pow-le-back : (i j : ℕ) → 2 ^ i ≤ 2 ^ j → i ≤ j
+pub pow-le-back : (i j : ℕ) → 2 ^ i ≤ 2 ^ j → i ≤ j
 pow-le-back i j h = le-of-suc-le-suc (lt-of-not-le (λ (g : suc j ≤ i). not-le-of-lt (pow-lt g) h))
 
 -- m * 2 ^ e with at most prec digits

@@ -1,18 +1,15 @@
 -- `hold` meets its contract.
-use mathlib.Core.Path.{_≡_, sym, subst, _∙_}
-use mathlib.Core.Bool.{Bool, true}
+use mathlib.Core.Path.{_≡_, _∙_}
 use Prim.Native.Nat.{ℕ, _≤_, min, max}
 use native.Mathlib.Omega.{arith}
-use lib.Dec.{T, lit≤, lit<}
+use lib.Dec.{lit≤, lit<}
 use lib.Ieee.{ofBits, toUnsigned}
 use Rattle.float.specs.inner.Range.{Within}
+use Rattle.float.proofs.Finite.{shown}
 use Rattle.float.proofs.Fraction.{widen}
 use Rattle.filters.proofs.Tests.{whole-above, whole-below, between-within}
 use Rattle.filters.proofs.compensation.hold.Statement.{statement}
 use Rattle.filters.proofs.compensation.hold.Tie as tie
-
-holds : (b : Bool) → b ≡ true → T b
-holds b e = subst T (sym e) tt
 
 top : (n : ℕ) → 2000000 ≤ n → 2000000 ≡ max 64 (min n 2000000)
 top n h = omega arith
@@ -26,11 +23,11 @@ bottom n h = omega arith
 -- from 64 up to below 2000000
 inside : (c : tie.Then2) → Within 2000000 1 (c .before .before .args .x)
 unfolding ofBits
-inside c = between-within 1 6 15625 7 (lit< tt) (c .before .before .args .x) (holds _ (c .if2 .taken)) (c .before .if1 .left)
+inside c = between-within 1 6 15625 7 (lit< tt) (c .before .before .args .x) (shown _ (c .if2 .taken)) (c .before .if1 .left)
 
 over : (c : tie.Then2) → 64 ≤ toUnsigned 64 (c .before .before .args .x)
 unfolding ofBits
-over c = whole-above 1 6 (lit< tt) (c .before .before .args .x) (lit≤ tt) (holds _ (c .if2 .taken))
+over c = whole-above 1 6 (lit< tt) (c .before .before .args .x) (lit≤ tt) (shown _ (c .if2 .taken))
 
 under : (c : tie.Then2) → toUnsigned 64 (c .before .before .args .x) ≤ 2000000
 unfolding ofBits
@@ -38,7 +35,7 @@ under c = whole-below 15625 7 (lit< tt) (c .before .before .args .x) (c .before 
 
 returns : tie.Need-returns
 unfolding ofBits
-returns c = let x = c .before .args .x in top (toUnsigned 64 x) (whole-above 15625 7 (lit< tt) x (lit≤ tt) (holds _ (c .if1 .taken)))
+returns c = let x = c .before .args .x in top (toUnsigned 64 x) (whole-above 15625 7 (lit< tt) x (lit≤ tt) (shown _ (c .if1 .taken)))
 
 whole-part-requires : tie.Need-whole-part-requires
 whole-part-requires c κs = widen 2000000 16777216 (c .before .before .args .x) (lit≤ tt) (inside c)

@@ -1,13 +1,10 @@
 -- `root::packed` meets its contract: the pattern is below the infinity's. Assumes nothing.
-use Prim.Native.Nat.{ℕ, _+_, _*_, _/_, _<_, _≤_}
-use native.Mathlib.Omega.{arith}
+use Prim.Native.Nat.{_+_, _*_, _/_}
 use Rattle.float.proofs.Patterns.{pattern-no-nan}
+use Rattle.float.proofs.Nearest.{made-under}
 use borrow.Author.Needs.{needs}
 use Rattle.float.proofs.root.packed.Statement.{statement}
 use Rattle.float.proofs.root.packed.Tie as tie
-
-high : (b h : ℕ) → b < 2139095040 → h ≤ 16777216 → ((b / 8388608 + 1) / 2 + 62) * 8388608 + h < 2139095040
-high b h u v = omega arith
 
 add-e : tie.Need-add-e
 add-e c = search needs
@@ -25,7 +22,7 @@ add-result : tie.Need-add-result
 add-result c = search needs
 
 float-from-bits-result : tie.Need-float-from-bits-result
-float-from-bits-result c = pattern-no-nan (((c .args .b / 8388608 + 1) / 2 + 62) * 8388608 + c .args .h) (high (c .args .b) (c .args .h) (c .pre .0) (c .pre .1))
+float-from-bits-result c = pattern-no-nan (((c .args .b / 8388608 + 1) / 2 + 62) * 8388608 + c .args .h) (made-under (c .args .b) (c .args .h) (c .pre .0) (c .pre .1))
 
 returns : tie.Need-returns
 returns c = search needs

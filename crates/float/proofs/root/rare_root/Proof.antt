@@ -1,14 +1,10 @@
 -- `float::root::rare_root` meets its contract. Assumes nothing.
-use mathlib.Core.Path.{_≡_, refl, sym, _∙_}
-use lib.Ieee.{nan, binary32, div, ofBits}
-use Rattle.float.proofs.Finite.{finite-test}
+use mathlib.Core.Path.{sym, _∙_}
+use lib.Ieee.{ofBits}
+use Rattle.float.proofs.Finite.{zero-by-zero, finite-test}
 use Rattle.float.proofs.Operands.{sqrt-positive, sqrt-infinite, sqrt-zero, sqrt-none}
 use Rattle.float.proofs.root.rare_root.Statement.{statement}
 use Rattle.float.proofs.root.rare_root.Tie as tie
-
-made : div binary32 (ofBits binary32 0) (ofBits binary32 0) ≡ nan
-unfolding div ofBits
-made = refl
 
 positive-root-requires : tie.Need-positive-root-requires
 unfolding ofBits
@@ -31,7 +27,7 @@ returns-3 c = sym (sqrt-zero (c .before .before .args .x) (c .if3 .taken))
 
 returns-4 : tie.Need-returns-4
 unfolding ofBits
-returns-4 c = made ∙ sym (sqrt-none (c .before .before .args .x) (c .before .if1 .left) (c .if3 .left))
+returns-4 c = zero-by-zero ∙ sym (sqrt-none (c .before .before .args .x) (c .before .if1 .left) (c .if3 .left))
 
 pub rare-root-spec : {M : Type 1} → statement M
 rare-root-spec = tie.close (tie.spec positive-root-requires returns returns-2 returns-3 returns-4)

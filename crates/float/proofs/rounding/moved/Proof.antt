@@ -1,10 +1,9 @@
 -- `whole::moved` meets its contract, whatever `near` is. Assumes nothing.
 use mathlib.Core.Path.{sym, subst}
 use Prim.Native.Nat.{ℕ, zero, suc, _+_, _-_, _*_, _^_, _<_, _≤_}
-use native.Mathlib.Nat.{mul-le-mul, lt-of-le-of-lt}
+use native.Mathlib.Nat.{mul-le-mul}
 use native.Mathlib.Omega.{arith}
-use lib.Dec.{lit<}
-use Rattle.float.proofs.RootLaws.{root-lt, square-next, nearest-is}
+use Rattle.float.proofs.RootLaws.{root-lt, square-next, nearest-is, square-fits}
 use Rattle.float.proofs.rounding.moved.Statement.{statement}
 use Rattle.float.proofs.rounding.moved.Tie as tie
 
@@ -19,9 +18,6 @@ Inv-loop2 n near h₀ h = (n < 2 ^ 48) × (h * h < n + h) × (h ≤ 16777216)
 
 abbrev μ-loop2 : tie.MeasureT-loop2
 μ-loop2 n near h₀ h = n - h
-
-square : (h : ℕ) → h ≤ 16777216 → h * h < 2 ^ 64
-square h u = lt-of-le-of-lt (mul-le-mul u u) (lit< tt)
 
 above-zero : (n h : ℕ) → 0 < n → n + h ≤ h * h → 0 < h
 above-zero n zero p t = absurd (no n p t)
@@ -51,9 +47,6 @@ under n h u t = next h (root-lt n h 16777216 (within n h (h * h) t) u)
     next : (h : ℕ) → h < 16777216 → h + 1 ≤ 16777216
     next h u = omega arith
 
-wide : (n : ℕ) → n < 2 ^ 48 → n < 2 ^ 50
-wide n u = omega arith
-
 loop-holds : tie.Need-loop-holds Inv-loop μ-loop Inv-loop2 μ-loop2
 loop-holds c = omega arith
 
@@ -61,7 +54,7 @@ add-loop : tie.Need-add-loop Inv-loop μ-loop Inv-loop2 μ-loop2
 add-loop c = omega arith
 
 mul-loop : tie.Need-mul-loop Inv-loop μ-loop Inv-loop2 μ-loop2
-mul-loop c = record { fits = square (c .loop .h) (c .loop .inv .2) }
+mul-loop c = record { fits = square-fits (c .loop .h) (c .loop .inv .2) }
 
 sub-h : tie.Need-sub-h Inv-loop μ-loop Inv-loop2 μ-loop2
 sub-h c = above-zero _ (c .before .loop .h) (c .before .loop .inv .1) (c .loop-test .taken)
@@ -76,7 +69,7 @@ loop2-holds : tie.Need-loop2-holds Inv-loop μ-loop Inv-loop2 μ-loop2
 loop2-holds c = (c .before .loop .inv .0, c .loop-test .left, c .before .loop .inv .2)
 
 mul-loop2 : tie.Need-mul-loop2 Inv-loop μ-loop Inv-loop2 μ-loop2
-mul-loop2 c = record { fits = square (c .loop2 .h) (c .loop2 .inv .2) }
+mul-loop2 c = record { fits = square-fits (c .loop2 .h) (c .loop2 .inv .2) }
 
 add-loop2 : tie.Need-add-loop2 Inv-loop μ-loop Inv-loop2 μ-loop2
 add-loop2 c = record { fits = beside _ (c .loop2 .h) (mul-le-mul (c .loop2 .inv .2) (c .loop2 .inv .2)) (c .loop2 .inv .2) }
@@ -91,7 +84,7 @@ loop2-again : tie.Need-loop2-again Inv-loop μ-loop Inv-loop2 μ-loop2
 loop2-again c = let b = c .before in (b .loop2 .inv .0, more _ (b .loop2 .h) (c .loop2-test .taken), under _ (b .loop2 .h) (b .loop2 .inv .0) (c .loop2-test .taken))
 
 returns : tie.Need-returns Inv-loop μ-loop Inv-loop2 μ-loop2
-returns c = let b = c .before in nearest-is _ (b .loop2 .h) (wide _ (b .loop2 .inv .0)) (b .loop2 .inv .1) (c .loop2-test .left)
+returns c = let b = c .before in nearest-is _ (b .loop2 .h) (b .loop2 .inv .0) (b .loop2 .inv .1) (c .loop2-test .left)
 
 pub moved-spec : {M : Type 1} → statement M
 moved-spec =
