@@ -9,14 +9,14 @@ use Rattle.wave_table.specs.Wave.{quarterOf, Table}
 use Rattle.wave_table.proofs.Every.{allUpTo, upTo-is}
 
 -- entry k is T(k)
-unfoldable pub ruled : List ℕ → ℕ → Bool
+unfoldable pub entryRuled : List ℕ → ℕ → Bool
 unfolding quarterOf
-ruled xs k = eqb (getD xs k 0) (quarterOf k)
+entryRuled xs k = eqb (getD xs k 0) (quarterOf k)
 
 -- a list of which that holds from 0 to 256 is the table
-pub table-is : (xs : List ℕ) → T (allUpTo (ruled xs) 257) → Table xs
-unfolding ruled
-table-is xs t = record { entry = λ k h. eqb→eq (getD xs k 0) (quarterOf k) (upTo-is (ruled xs) 257 t k (below k h)) }
+pub table-is : (xs : List ℕ) → T (allUpTo (entryRuled xs) 257) → Table xs
+unfolding entryRuled
+table-is xs t = record { entry = λ k h. eqb→eq (getD xs k 0) (quarterOf k) (upTo-is (entryRuled xs) 257 t k (below k h)) }
   where
     below : (k : ℕ) → k ≤ 256 → k < 257
     below k h = omega arith
