@@ -19,7 +19,7 @@ use Rattle.table.specs.Answer.{refusalOf, readingParsed}
 use Rattle.table.specs.Decode.{decode}
 use Rattle.table.specs.Views.{ViewsRead}
 use Rattle.table.specs.inner.KeptViews.{viewed}
-use Rattle.table.proofs.ReadLaws.{accepted, refused-is}
+use Rattle.table.proofs.ReadLaws.{accepted-table, refused-is}
 use Rattle.table.proofs.ViewsLaws.{views-lead}
 use Rattle.voice.specs.Question as question
 use Rattle.making.specs.Making.{Making, limitsOk, tableQuestion, makeOf, makeQuestion, freshVoice, blankVoice}
@@ -28,7 +28,7 @@ use Rattle.making.proofs.CoeffLaws.{refused-number}
 -- an image that is read: its table, and its entries as the views have them
 pub table-read : {G : Type 0} (s : List ℕ) (r : Views) (n e : ℕ) → ViewsRead s r → r .reading ≡ Reading.Accepted n e
     → ((t : CoeffTable) → decode s ≡ ok t e → length (t .entries) ≡ n → (n ≤ 16 → viewed s (r .views) n ≡ t .entries) → G) → G
-table-read s r n e v q k = accepted s n e (sym (v .reading) ∙ ap readingParsed q) λ t p l.
+table-read s r n e v q k = accepted-table s n e (sym (v .reading) ∙ ap readingParsed q) λ t p l.
     k t p l λ h. ap (λ (views : List EntryView). viewed s views n) (v .views) ∙ views-lead s t e n p l h
 
 pub table-refused : (s : List ℕ) (r : Views) (e : CoeffTableCodecError) → ViewsRead s r → r .reading ≡ Reading.Refused e → decode s ≡ refused (refusalOf e)

@@ -11,7 +11,7 @@ use Rattle.table.specs.Image.{Header, header}
 use Rattle.table.specs.Decode.{decode}
 use Rattle.table.specs.Answer.{counts}
 use Rattle.table.specs.inner.Header.{headerIn, partStart}
-use Rattle.table.proofs.ReadLaws.{headless, tableOf, table-is}
+use Rattle.table.proofs.ReadLaws.{headless, tableOf, decoded-is}
 use Rattle.table.proofs.HeaderLaws.{header-is}
 
 -- no header: the image is refused
@@ -28,7 +28,7 @@ pub header-some : {G : Type 0} (s : List ℕ) (d : Header) (at : ℕ) → header
 header-some {G} s d at h k = go (decode s) refl h
   where
     go : (p : Parsed CoeffTable) → decode s ≡ p → headerIn p s ≡ ok d at → G
-    go (ok t e) q j = k e j (q ∙ ap (λ (x : CoeffTable). ok x e) (table-is s d at t e j q))
+    go (ok t e) q j = k e j (q ∙ ap (λ (x : CoeffTable). ok x e) (decoded-is s d at t e j q))
     go (refused x) q j = let z : _≡_ {A = ℕ} 0 1 = cc in absurd (omega arith)
 
 pub header-of : (s : List ℕ) (n e : ℕ) → counts (decode s) ≡ ok n e → headerIn (decode s) s ≡ header s 0

@@ -49,9 +49,9 @@ read-go s d at h g = rw (le-leb (length s) 65536 h, g) (counts-entries d (entrie
 abbrev pub tableOf : List ℕ → Header → ℕ → CoeffTable
 tableOf s d at = tableFrom d (entryList (d .count) s at)
 
-pub table-is : (s : List ℕ) (d : Header) (at : ℕ) (t : CoeffTable) (e : ℕ) → header s 0 ≡ ok d at → decode s ≡ ok t e → t ≡ tableOf s d at
+pub decoded-is : (s : List ℕ) (d : Header) (at : ℕ) (t : CoeffTable) (e : ℕ) → header s 0 ≡ ok d at → decode s ≡ ok t e → t ≡ tableOf s d at
 unfolding decode
-table-is s d at t e g h =
+decoded-is s d at t e g h =
     went (asked (leb (length s) 65536) 0 (refusal 1 0 0)) _ t e h λ x m₁ g₁ h₁.
     let a = asked-ok (leb (length s) 65536) 0 m₁ (refusal 1 0 0) x g₁ in
     went (header s m₁) _ t e h₁ λ b m₂ g₂ h₂.
@@ -63,15 +63,15 @@ table-is s d at t e g h =
     let r : t ≡ tableFrom b es = cc in
     rw (r, p, q, many-stand entry s (b .count) 0 m₂ m₃ es g₃) refl
 
-pub accepted : {G : Type 0} (s : List ℕ) (n e : ℕ) → counts (decode s) ≡ ok n e → ((t : CoeffTable) → decode s ≡ ok t e → length (t .entries) ≡ n → G) → G
-accepted {G} s n e h k = go (decode s) refl h
+pub accepted-table : {G : Type 0} (s : List ℕ) (n e : ℕ) → counts (decode s) ≡ ok n e → ((t : CoeffTable) → decode s ≡ ok t e → length (t .entries) ≡ n → G) → G
+accepted-table {G} s n e h k = go (decode s) refl h
   where
     go : (p : Parsed CoeffTable) → decode s ≡ p → counts p ≡ ok n e → G
     go (ok t at) q j = let x : at ≡ e = cc in k t (q ∙ ap (ok t) x) cc
     go (refused r) q j = let z : _≡_ {A = ℕ} 0 1 = cc in absurd (omega arith)
 
 pub read-table : (s : List ℕ) (d : Header) (at n e : ℕ) → counts (decode s) ≡ ok n e → header s 0 ≡ ok d at → decode s ≡ ok (tableOf s d at) e
-read-table s d at n e h g = accepted s n e h λ t p l. p ∙ ap (λ (x : CoeffTable). ok x e) (table-is s d at t e g p)
+read-table s d at n e h g = accepted-table s n e h λ t p l. p ∙ ap (λ (x : CoeffTable). ok x e) (decoded-is s d at t e g p)
 
 pub refused-is : (s : List ℕ) (r : Refusal) → counts (decode s) ≡ refused r → decode s ≡ refused r
 refused-is s r h = go (decode s) h
@@ -83,7 +83,7 @@ refused-is s r h = go (decode s) h
 -- an image that is accepted has a header
 pub headless : (s : List ℕ) (r : Refusal) (n e : ℕ) → counts (decode s) ≡ ok n e → header s 0 ≡ refused r → ⊥
 unfolding decode
-headless s r n e h g = accepted s n e h λ t p l.
+headless s r n e h g = accepted-table s n e h λ t p l.
     went (asked (leb (length s) 65536) 0 (refusal 1 0 0)) _ t e p λ x m₁ g₁ h₁.
     let a = asked-ok (leb (length s) 65536) 0 m₁ (refusal 1 0 0) x g₁ in
     went (header s m₁) _ t e h₁ λ b m₂ g₂ h₂.

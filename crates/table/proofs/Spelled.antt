@@ -41,8 +41,8 @@ joined {s} {a} {m} {e} {x} {y} p q =
       bytes = rw (p .bytes, q .bytes, ← k, take-add (m - a) (e - m) (drop a s), drop-drop (m - a) a s, j) refl;
     }
 
-none : (s : List ℕ) (a e : ℕ) → a ≡ e → Spelled s a e []
-none s a e h = let k : e - a ≡ 0 = omega arith in record { order = omega arith; inside = λ g. omega arith; bytes = rw k refl }
+spelled-nothing : (s : List ℕ) (a e : ℕ) → a ≡ e → Spelled s a e []
+spelled-nothing s a e h = let k : e - a ≡ 0 = omega arith in record { order = omega arith; inside = λ g. omega arith; bytes = rw k refl }
 
 digits-of : (a b c d : ℕ) → a < 256 → b < 256 → c < 256 → d < 256 → putU32 (a + 256 * b + 65536 * c + 16777216 * d) ≡ a ∷ b ∷ c ∷ d ∷ []
 digits-of a b c d ha hb hc hd =
@@ -95,7 +95,7 @@ module _ (s : List ℕ) (byte : (i : ℕ) → getD s i 0 < 256) where
     spelled-many zero i at e l h =
         let q : l ≡ [] = cc in
         let k : at ≡ e = cc in
-        rw q (none s at e k)
+        rw q (spelled-nothing s at e k)
     spelled-many (suc n) i at e l h =
         went (p i s at) (λ a next. then (many p (i + 1) n s next) (λ l e. ok (a ∷ l) e)) l e h λ a m g h₁.
         went (many p (i + 1) n s m) (λ l e. ok (a ∷ l) e) l e h₁ λ k x g₂ h₂.

@@ -28,18 +28,18 @@ pub viewed-length : (s : List ℕ) (views : List EntryView) (n : ℕ) → n ≤ 
 viewed-length s views n h = length-map (take n views) (entryAt s) ∙ length-take-le n views h
 
 -- ---- the loop: entries put into a list of views one after the other, from place i on; past the list's end none is kept
-unfoldable pub putAll : List EntryView → ℕ → ℕ → List PitchEntry → List EntryView
-putAll views i at [] = views
-putAll views i at (e ∷ es) = putAll (set views i (viewOf at e)) (i + 1) (at + entrySize e) es
+unfoldable pub putViews : List EntryView → ℕ → ℕ → List PitchEntry → List EntryView
+putViews views i at [] = views
+putViews views i at (e ∷ es) = putViews (set views i (viewOf at e)) (i + 1) (at + entrySize e) es
 
-put-past : (views : List EntryView) (i at : ℕ) (es : List PitchEntry) → length views ≤ i → putAll views i at es ≡ views
-unfolding putAll
+put-past : (views : List EntryView) (i at : ℕ) (es : List PitchEntry) → length views ≤ i → putViews views i at es ≡ views
+unfolding putViews
 put-past views i at [] h = refl
 put-past views i at (e ∷ es) h = rw (set-out views i (viewOf at e) h) (put-past views (i + 1) (at + entrySize e) es (omega arith))
 
 put-from : (k : ℕ) (before : List EntryView) (at : ℕ) (es : List PitchEntry)
-    → putAll (before ++ replicate k noView) (length before) at es ≡ before ++ viewsFrom k at es
-unfolding putAll viewsFrom
+    → putViews (before ++ replicate k noView) (length before) at es ≡ before ++ viewsFrom k at es
+unfolding putViews viewsFrom
 put-from k before at [] = refl
 put-from zero before at (e ∷ es) =
     rw (append-nil before, set-out before (length before) (viewOf at e) (omega arith)) (put-past before (length before + 1) (at + entrySize e) es (omega arith))
@@ -51,22 +51,22 @@ put-from (suc k) before at (e ∷ es) =
     rw (set-append-seam before noView (replicate k noView) v, ← a, ← l, ← b) (put-from k (before ++ (v ∷ [])) (at + entrySize e) es)
 
 -- it starts with views of nothing
-pub put-first : (at : ℕ) (es : List PitchEntry) → putAll (replicate 16 noView) 0 at es ≡ viewsFrom 16 at es
+pub put-first : (at : ℕ) (es : List PitchEntry) → putViews (replicate 16 noView) 0 at es ≡ viewsFrom 16 at es
 put-first at es = put-from 16 [] at es
 
 -- a turn, and the end
 module _ (s : List ℕ) (views : List EntryView) (i n at : ℕ) where
   pub put-again : (v : EntryView) (next : ℕ) → i < n → entry i s at ≡ ok (entryAt s v) next → v ≡ viewOf at (entryAt s v)
-      → putAll views i at (standing entry i (n - i) s at) ≡ putAll (set views i v) (i + 1) next (standing entry (i + 1) (n - (i + 1)) s next)
-  unfolding putAll
+      → putViews views i at (standing entry i (n - i) s at) ≡ putViews (set views i v) (i + 1) next (standing entry (i + 1) (n - (i + 1)) s next)
+  unfolding putViews
   put-again v next h g p =
       let rest = standing entry (i + 1) (n - (i + 1)) s next in
-      ap (putAll views i at) (stand-go entry s i n at next (entryAt s v) h g)
-      ∙ ap (λ (x : ℕ). putAll (set views i (viewOf at (entryAt s v))) (i + 1) x rest) (sym (entry-end i s at next (entryAt s v) g))
-      ∙ ap (λ (w : EntryView). putAll (set views i w) (i + 1) next rest) (sym p)
+      ap (putViews views i at) (stand-go entry s i n at next (entryAt s v) h g)
+      ∙ ap (λ (x : ℕ). putViews (set views i (viewOf at (entryAt s v))) (i + 1) x rest) (sym (entry-end i s at next (entryAt s v) g))
+      ∙ ap (λ (w : EntryView). putViews (set views i w) (i + 1) next rest) (sym p)
 
-  pub put-end : n ≤ i → putAll views i at (standing entry i (n - i) s at) ≡ views
-  unfolding putAll
+  pub put-end : n ≤ i → putViews views i at (standing entry i (n - i) s at) ≡ views
+  unfolding putViews
   put-end h = rw (stand-end entry s i n at h) refl
 
 -- what is kept, by the answer

@@ -14,7 +14,7 @@ use Rattle.table.specs.inner.Baseline.{answerFrom}
 use Rattle.table.specs.Answer.{entryParsed, readingParsed}
 use Rattle.table.proofs.SizeLaws.{placed-view}
 use Rattle.table.proofs.SpanLaws.{entries-go, entries-no, entries-end}
-use Rattle.table.proofs.ViewsLaws.{putAll, put-first, put-again, put-end, kept-all, kept-none}
+use Rattle.table.proofs.ViewsLaws.{putViews, put-first, put-again, put-end, kept-all, kept-none}
 use borrow.Author.Needs.{needs}
 use Rattle.table.proofs.views.views_at.Statement.{statement}
 use Rattle.table.proofs.views.views_at.Tie as tie
@@ -22,7 +22,7 @@ use Rattle.table.proofs.views.views_at.Tie as tie
 abbrev Inv-loop : tie.InvT-loop
 Inv-loop s n views₀ d₀ i₀ j₀ views d i j =
     (i ≤ n) × (answerFrom j i (many entry i (n - i) s (d .at)) ≡ answerFrom Baseline.Start 0 (entries n s (d₀ .at))) × (length views ≡ 16)
-    × (putAll views i (d .at) (standing entry i (n - i) s (d .at)) ≡ viewsFrom 16 (d₀ .at) (entryList n s (d₀ .at)))
+    × (putViews views i (d .at) (standing entry i (n - i) s (d .at)) ≡ viewsFrom 16 (d₀ .at) (entryList n s (d₀ .at)))
 
 abbrev μ-loop : tie.MeasureT-loop
 μ-loop s n views₀ d₀ i₀ j₀ views d i j = n - i
