@@ -73,19 +73,19 @@ module _ (at : ℕ → ℕ) (f : ℕ → BiquadState → BiquadState) where
       (eq-or-lt-of-le (omega arith))
 
 -- a place is one of the first n, or none of them
-data Place (at : ℕ → ℕ) (b n : ℕ) : Type 0 where
-  one : (i : ℕ) → i < n → b ≡ at i → Place at b n
-  none : ((i : ℕ) → i < n → b ≡ at i → ⊥) → Place at b n
+data Among (at : ℕ → ℕ) (b n : ℕ) : Type 0 where
+  at-one : (i : ℕ) → i < n → b ≡ at i → Among at b n
+  off-all : ((i : ℕ) → i < n → b ≡ at i → ⊥) → Among at b n
 
-place : (at : ℕ → ℕ) (b n : ℕ) → Place at b n
-place at b zero = none (λ i h e. omega arith)
-place at b (suc n) = more (eqb b (at n)) refl (place at b n)
+among : (at : ℕ → ℕ) (b n : ℕ) → Among at b n
+among at b zero = off-all (λ i h e. omega arith)
+among at b (suc n) = more (eqb b (at n)) refl (among at b n)
   where
-    more : (t : Bool) → eqb b (at n) ≡ t → Place at b n → Place at b (suc n)
-    more true e p = one n (omega arith) (eqb→eq b (at n) (subst T (sym e) tt))
-    more false e (one i h q) = one i (omega arith) q
-    more false e (none f) =
-        none (λ i h q.
+    more : (t : Bool) → eqb b (at n) ≡ t → Among at b n → Among at b (suc n)
+    more true e p = at-one n (omega arith) (eqb→eq b (at n) (subst T (sym e) tt))
+    more false e (at-one i h q) = at-one i (omega arith) q
+    more false e (off-all f) =
+        off-all (λ i h q.
         ⊎-elim (λ (k : i ≡ n). let s = eq-eqb b (at n) (q ∙ ap at k) in let z : _≡_ {A = ℕ} 0 1 = cc in absurd (omega arith)) (λ (k : i < n). f i k q) (eq-or-lt-of-le (omega arith)))
 
 -- ---- the live bands of a voice that keeps the rules
@@ -139,14 +139,14 @@ module _ (v : Voice) (K : LiveFit (v .set)) where
       → scattered (v .set .live) z1 z2 ns (v .set .«live_count») ≡ ms
   scattered-is z1 z2 ms ns h k A M =
       let long = length-written band (λ l m. stateOfColumns z1 z2 l) ns (v .set .«live_count») in
-      memories-same 16 _ ms (long ∙ k) h (λ b q. same b (place band b (v .set .«live_count»)))
+      memories-same 16 _ ms (long ∙ k) h (λ b q. same b (among band b (v .set .«live_count»)))
     where
-      same : (b : ℕ) → Place band b (v .set .«live_count») → memoryAt (written band (λ l m. stateOfColumns z1 z2 l) ns (v .set .«live_count»)) b ≡ memoryAt ms b
-      same b (one l a e) =
+      same : (b : ℕ) → Among band b (v .set .«live_count») → memoryAt (written band (λ l m. stateOfColumns z1 z2 l) ns (v .set .«live_count»)) b ≡ memoryAt ms b
+      same b (at-one l a e) =
           let w : memoryAt (written band (λ l m. stateOfColumns z1 z2 l) ns (v .set .«live_count»)) (band l) ≡ memoryAt ms (band l) =
           at-written band (λ l m. stateOfColumns z1 z2 l) ns (v .set .«live_count») l a rising (inside ns k) ∙ sym (M .at l a) in
           rw e w
-      same b (none f) = off-written band (λ l m. stateOfColumns z1 z2 l) ns (v .set .«live_count») b f ∙ sym (A .at b f)
+      same b (off-all f) = off-written band (λ l m. stateOfColumns z1 z2 l) ns (v .set .«live_count») b f ∙ sym (A .at b f)
 
   -- ---- the columns of a sample
   module _ (r : Rng) (ms : List Float) (x : Float) (ys w1 w2 z1 z2 cs : List Float) (ex : x ≡ noiseIn r) (M : Memories z1 z2 ms (v .set .live) (v .set .«live_count»)) (C : Coeffs cs (v .lists) (v .set .live) (v .set .«live_count»))

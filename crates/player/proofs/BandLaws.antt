@@ -2,35 +2,27 @@
 use mathlib.Core.Path.{_≡_, refl, _∙_}
 use mathlib.Core.Bool.{Bool, true, false, _&&_, cond}
 use mathlib.Core.List.{List, _++_}
-use Prim.Native.Nat.{ℕ, zero, suc, _+_, _-_, _≤_, _<_}
+use Prim.Native.Nat.{ℕ, _+_, _-_, _≤_, _<_}
 use native.Mathlib.Omega.{arith}
 use lib.ListN.{length, drop, getD, replicate, List·getD-append}
 use lib.Ieee.{Float}
-use lib.Dec.{T, eqb, ltb, leb, lt→ltb}
+use lib.Dec.{eqb, ltb, leb, lt→ltb}
+use lib.Ieee.Bits.{is-true}
 use Rattle.voice.specs.Limits.{maxBands}
 use Rattle.voice.specs.Lists.{upTo, every}
 use Rattle.voice.specs.Voice.{countsOk, entriesOk, rateOk, liveOk, rulesOf, keepsRules, bandsAscend}
 use Rattle.voice.specs.declared.voice.Setting.{Setting}
 use Rattle.voice.specs.declared.voice.Voice.{Voice}
-use Rattle.voice.proofs.Loops.{at-every, both-true, length-upTo, upTo-at}
+use Rattle.voice.proofs.Loops.{at-every, both-true, length-upTo, upTo-at, drop-replicate}
 use Rattle.voice.proofs.QuestionLaws.{kept, counts-are}
 use Rattle.player.specs.Bands.{allBands, allLive, ticking}
 
-pub drop-replicate : (x : ℕ) (j n : ℕ) → drop j (replicate n x) ≡ replicate (n - j) x
-drop-replicate x zero n = let e : n - 0 ≡ n = omega arith in rw e
-drop-replicate x (suc j) zero = let e : 0 - suc j ≡ 0 = omega arith in rw e
-drop-replicate x (suc j) (suc n) = let e : suc n - suc j ≡ n - j = omega arith in rw e (drop-replicate x j n)
-
 below-is : (a b : ℕ) → a < b → ltb a b ≡ true
-below-is a b h = T-true (ltb a b) (lt→ltb a b h)
-  where
-    T-true : (x : Bool) → T x → x ≡ true
-    T-true true t = refl
-    T-true false t = absurd t
+below-is a b h = is-true (ltb a b) (lt→ltb a b h)
 
 -- what a loop that fills the first j places leaves
 pub bands-full : (j b : ℕ) (l : List ℕ) → b ≡ j → l ≡ upTo (λ i. i) b ++ drop b (replicate maxBands 0) → l ≡ allBands j
-bands-full j b l e h = rw (h, e, drop-replicate 0 j maxBands, length-upTo (λ (i : ℕ). i) j)
+bands-full j b l e h = rw (h, e, drop-replicate {A = ℕ} 0 j maxBands, length-upTo (λ (i : ℕ). i) j)
 
 -- band b stands in place b
 pub all-at : (j b : ℕ) → b < j → getD (allBands j) b 0 ≡ b

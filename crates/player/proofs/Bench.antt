@@ -39,14 +39,14 @@ unfolding bipolarOf round div ofInt
 p9 = record { state = refl; value = (refl, refl) }
 
 -- P10: pitches 100, 200, 400: 100 gives entry 0; 200 gives 1 and 2, t = 0; 300 the same pair, t = 0.5; 400 entry 2
-abbrev pitches : List Float
-pitches = quotient 100 1 ∷ quotient 200 1 ∷ quotient 400 1 ∷ []
+abbrev threePitches : List Float
+threePitches = quotient 100 1 ∷ quotient 200 1 ∷ quotient 400 1 ∷ []
 
 pub record P10 : Type 0 where
-  pub at-100 : bracketOf pitches 3 (quotient 100 1) ≡ Bracket.One 0
-  pub at-200 : bracketOf pitches 3 (quotient 200 1) ≡ Bracket.Between 1 2 (quotient 0 1)
-  pub at-300 : bracketOf pitches 3 (quotient 300 1) ≡ Bracket.Between 1 2 (quotient 1 2)
-  pub at-400 : bracketOf pitches 3 (quotient 400 1) ≡ Bracket.One 2
+  pub at-100 : bracketOf threePitches 3 (quotient 100 1) ≡ Bracket.One 0
+  pub at-200 : bracketOf threePitches 3 (quotient 200 1) ≡ Bracket.Between 1 2 (quotient 0 1)
+  pub at-300 : bracketOf threePitches 3 (quotient 300 1) ≡ Bracket.Between 1 2 (quotient 1 2)
+  pub at-400 : bracketOf threePitches 3 (quotient 400 1) ≡ Bracket.One 2
 
 pub p10 : P10
 unfolding bracketOf notAbove neighbours round le lt eq add sub div

@@ -52,13 +52,13 @@ module _ (f : ℕ → Float) where
   filled-as xs g n e F = record { at = λ i h. F .at i h ∙ e i h }
 
 -- ---- a column that a loop changes in place: the places from i on are as they were
-pub record Kept (xs ys : List Float) (i : ℕ) : Type 0 where
+pub record KeptFrom (xs ys : List Float) (i : ℕ) : Type 0 where
   pub at : (j : ℕ) → i ≤ j → getD xs j nan ≡ getD ys j nan
 
-pub kept-all : (xs : List Float) → Kept xs xs 0
+pub kept-all : (xs : List Float) → KeptFrom xs xs 0
 kept-all xs = record { at = λ j h. refl }
 
-pub kept-again : (xs ys : List Float) (i : ℕ) (x : Float) → Kept xs ys i → Kept (set xs i x) ys (i + 1)
+pub kept-again : (xs ys : List Float) (i : ℕ) (x : Float) → KeptFrom xs ys i → KeptFrom (set xs i x) ys (i + 1)
 kept-again xs ys i x K = record { at = λ j h. set-after xs i j x (omega arith) ∙ K .at j (omega arith) }
 
 -- ---- steps that are equal below n give equal results
@@ -120,9 +120,9 @@ state-before z1 z2 l i x y h = rw (set-before z1 l i x h, set-before z2 l i y h)
 state-at : (z1 z2 : List Float) (l : ℕ) (x y : Float) → l < length z1 → l < length z2 → stateOfColumns (set z1 l x) (set z2 l y) l ≡ stateFrom x y
 state-at z1 z2 l x y h k = rw (set-at-place z1 l x h, set-at-place z2 l y k)
 
-pub memories-again : (z1 z2 : List Float) (ms : List Float) (live : List ℕ) (l : ℕ) (m : BiquadState) → length z1 ≡ 32 → length z2 ≡ 32 → l < 32 → m ≡ memoryAt ms (getD live l 0) → Memories z1 z2 ms live l
+pub memories-stored : (z1 z2 : List Float) (ms : List Float) (live : List ℕ) (l : ℕ) (m : BiquadState) → length z1 ≡ 32 → length z2 ≡ 32 → l < 32 → m ≡ memoryAt ms (getD live l 0) → Memories z1 z2 ms live l
     → Memories (set z1 l (m .z1)) (set z2 l (m .z2)) ms live (l + 1)
-memories-again z1 z2 ms live l m h1 h2 h e M =
+memories-stored z1 z2 ms live l m h1 h2 h e M =
     record { at = one-more l (λ i a. M .at i a ∙ sym (state-before z1 z2 l i (m .z1) (m .z2) a)) (sym e ∙ sym (state-at z1 z2 l (m .z1) (m .z2) (omega arith) (omega arith))) }
 
 pub memories-full : (z1 z2 : List Float) (ms : List Float) (live : List ℕ) (l n : ℕ) → l ≡ n → Memories z1 z2 ms live l → Memories z1 z2 ms live n
@@ -140,7 +140,7 @@ ticked-again ys w1 w2 z1 z2 cs x l t hy h1 h2 h e K =
     }
 
 -- the memories of place l are still those at first
-pub state-kept : (w1 w2 z1 z2 : List Float) (l : ℕ) → Kept w1 z1 l → Kept w2 z2 l → stateOfColumns w1 w2 l ≡ stateOfColumns z1 z2 l
+pub state-kept : (w1 w2 z1 z2 : List Float) (l : ℕ) → KeptFrom w1 z1 l → KeptFrom w2 z2 l → stateOfColumns w1 w2 l ≡ stateOfColumns z1 z2 l
 state-kept w1 w2 z1 z2 l K J = rw (K .at l (omega arith), J .at l (omega arith))
 
 pub ticked-full : (ys w1 w2 z1 z2 cs : List Float) (x : Float) (l n : ℕ) → l ≡ n → Ticked ys w1 w2 z1 z2 cs x l → Ticked ys w1 w2 z1 z2 cs x n

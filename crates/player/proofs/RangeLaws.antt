@@ -4,7 +4,7 @@ use mathlib.Core.Logic.{_⊎_, inl, inr}
 use mathlib.Core.List.{List}
 use lib.ListN.{getD}
 use Prim.Native.Nat.{ℕ, zero, suc, _+_, _-_, _*_, _≤_, _<_}
-use native.Mathlib.Nat.{le-of-eq, le-of-lt, lt-of-lt-of-le, lt-irrefl, mul-pos, zero-mul, mul-assoc, mul-comm, mul-left-comm, zero-add}
+use native.Mathlib.Nat.{le-of-lt, mul-pos, zero-mul, mul-assoc, mul-comm, mul-left-comm, zero-add}
 use native.Mathlib.Omega.{arith}
 use mathlib.Core.Bool.{Bool, true, false, _&&_, cond}
 use lib.IntN.{ℤ, pos}
@@ -12,11 +12,14 @@ use lib.Dec.{T, ltb, lt→ltb, eqb, eqb→eq, lit≤, lit<}
 use lib.Ieee.{Float, nan, inf, fin, Format, binary32, up, down, round, sum, add, sub, mul, neg, lt, le, eq, fits}
 use lib.Ieee.Fits.{up-pos, down-pos, and-l}
 use lib.Ieee.Positive.{num, den, den-pos}
+use lib.Ieee.Bits.{is-true}
+use Rattle.filters.proofs.Tests.{positive-not-zero}
+use Rattle.float.proofs.Finite.{shown}
 use Rattle.float.specs.inner.Range.{plain, Within, AtMost}
 use Rattle.float.specs.Lerp.{lerp}
 use Rattle.float.specs.Fraction.{fraction}
 use Rattle.float.proofs.Within.{Holds, on-plain, le→cross, lt→cross, cross→le, cross→lt, add-within, mul-within, sub-within, fits-holds}
-use Rattle.float.proofs.Bounds.{le-or-lt, up-to-self, round-neg, mul-neg}
+use Rattle.float.proofs.Bounds.{le-or-lt, up-to-self, round-neg, mul-neg, add-neg, one-times}
 use Rattle.float.proofs.Fraction.{widen}
 use Rattle.float.specs.F32.{_⊕_, quotient}
 use Rattle.player.specs.Phase.{advanceOf, stepOf}
@@ -28,22 +31,12 @@ use Rattle.player.specs.declared.pitch.bracket.Sides.{Sides}
 use Rattle.voice.proofs.Loops.{both-true, every-at, mapTo-read}
 use Rattle.player.proofs.PhaseLaws.{sum-within, advance-phase, freq-within, stretch-within}
 
-pub hold : (b : Bool) → b ≡ true → T b
-hold b e = subst T (sym e) tt
-
-pub so : (b : Bool) → T b → b ≡ true
-so true t = refl
-so false t = absurd t
-
 -- ---- what is at least 0
-not-zero : (a : ℕ) → 0 < a → a ≡ 0 → ⊥
-not-zero a h e = lt-irrefl 0 (lt-of-lt-of-le h (le-of-eq e))
-
 no-sign : (m : ℕ) (e : ℤ) → T (le (quotient 0 1) (fin true (suc m) e)) → ⊥
 unfolding round le lt eq
 no-sign m e h =
     let a = suc m * up e * 1 in
-    not-zero a (mul-pos (mul-pos (lit-pos m) (up-pos e)) (lit< tt)) (sym (eqb→eq (0 * down e) a (and-l (eqb (0 * down e) a) (eqb (0 * down e) 0) h)) ∙ zero-mul (down e))
+    positive-not-zero a (mul-pos (mul-pos (lit-pos m) (up-pos e)) (lit< tt)) (sym (eqb→eq (0 * down e) a (and-l (eqb (0 * down e) a) (eqb (0 * down e) 0) h)) ∙ zero-mul (down e))
   where
     lit-pos : (m : ℕ) → 0 < suc m
     lit-pos m = omega arith
@@ -76,7 +69,7 @@ pitch-is (fin false m e) h g = record { plain-is = tt; upper = le→cross (fin f
 pitch-is (fin true m e) h g = absurd h
 
 pub pitch-within : (f : Float) → pitchOk f ≡ true → Within 20000 1 f
-pitch-within f h = let p = both-true (lt (quotient 0 1) f) (le f (quotient 20000 1)) h in pitch-is f (hold _ (p .0)) (hold _ (p .1))
+pitch-within f h = let p = both-true (lt (quotient 0 1) f) (le f (quotient 20000 1)) h in pitch-is f (shown _ (p .0)) (shown _ (p .1))
 
 -- of two floats with no sign, the one that is not at most the other is above it
 pub not-le : (x y : Float) → T (plain x) → T (plain y) → le x y ≡ false → T (lt y x)
@@ -107,34 +100,34 @@ nothing-more f a b d e = subst (λ (x : ℕ). cond (ltb x b) (round f false (b -
         ∙ ap (λ (z : ℕ). round f false z d) (same b)
 
 -- LAW: -0 + y is 0 + y, where y has no sign
-pub minus-zero : (f : Format) (e : ℤ) (y : Float) → T (plain y) → add f (fin true 0 e) y ≡ add f (fin false 0 e) y
+pub minus-zero-plus : (f : Format) (e : ℤ) (y : Float) → T (plain y) → add f (fin true 0 e) y ≡ add f (fin false 0 e) y
 unfolding add sum
-minus-zero f e y p =
+minus-zero-plus f e y p =
     on-plain (λ (z : Float). add f (fin true 0 e) z ≡ add f (fin false 0 e) z)
-    (λ (n : ℕ) (d : ℤ). nothing-more f (0 * up e * down d) (n * up d * down e) (down e * down d) (none (up e) (down d))) y p
+    (λ (n : ℕ) (d : ℤ). nothing-more f (0 * up e * down d) (n * up d * down e) (down e * down d) (zero-product (up e) (down d))) y p
   where
-    none : (a b : ℕ) → 0 * a * b ≡ 0
-    none a b = rw (zero-mul, zero-mul)
+    zero-product : (a b : ℕ) → 0 * a * b ≡ 0
+    zero-product a b = rw (zero-mul, zero-mul)
 
 zero-within : (a c : ℕ) (e : ℤ) → Within a c (fin false 0 e)
-zero-within a c e = record { plain-is = tt; upper = none (up e) c (a * down e) }
+zero-within a c e = record { plain-is = tt; upper = zero-under (up e) c (a * down e) }
   where
-    none : (a b c : ℕ) → 0 * a * b ≤ c
-    none a b c = rw (zero-mul, zero-mul) (omega arith)
+    zero-under : (a b c : ℕ) → 0 * a * b ≤ c
+    zero-under a b c = rw (zero-mul, zero-mul) (omega arith)
 
 zero-phase : (e : ℤ) → Phase (fin false 0 e)
-zero-phase e = record { plain-is = tt; strict = none (up e) (down e) (down-pos e) }
+zero-phase e = record { plain-is = tt; strict = zero-below (up e) (down e) (down-pos e) }
   where
-    none : (a d : ℕ) → 0 < d → 0 * a * 1 < 1 * d
-    none a d h = omega arith
+    zero-below : (a d : ℕ) → 0 < d → 0 * a * 1 < 1 * d
+    zero-below a d h = omega arith
 
 -- a phase that passes the test, and one with no sign that sums to the same
 plain-phase : (p inc : Float) → phaseOk p ≡ true → Step inc → (q : Float) × Phase q × (p ⊕ inc ≡ q ⊕ inc)
-plain-phase p inc h i = let t = both-true (le (quotient 0 1) p) (lt p (quotient 1 1)) h in go (phase-or p (hold _ (t .0)) (hold _ (t .1)))
+plain-phase p inc h i = let t = both-true (le (quotient 0 1) p) (lt p (quotient 1 1)) h in go (phase-or p (shown _ (t .0)) (shown _ (t .1)))
   where
     go : Phase p ⊎ ((e : ℤ) × (p ≡ fin true 0 e)) → (q : Float) × Phase q × (p ⊕ inc ≡ q ⊕ inc)
     go (inl P) = (p, P, refl)
-    go (inr z) = (fin false 0 (z .0), zero-phase (z .0), ap (λ (t : Float). t ⊕ inc) (z .1) ∙ minus-zero binary32 (z .0) inc (i .plain-is))
+    go (inr z) = (fin false 0 (z .0), zero-phase (z .0), ap (λ (t : Float). t ⊕ inc) (z .1) ∙ minus-zero-plus binary32 (z .0) inc (i .plain-is))
 
 -- LAW: the sum of a phase and a step
 pub sum-up-to : (p inc : Float) → phaseOk p ≡ true → Step inc → Within 1048577 1 (p ⊕ inc)
@@ -149,7 +142,7 @@ unfolding round
 sum-under-two p inc h i l =
     let q = plain-phase p inc h i in
     let x = q .0 ⊕ inc in
-    let I : Within 31 32 inc = record { plain-is = i .plain-is; upper = le→cross inc (quotient 31 32) (i .plain-is) tt (hold _ l) } in
+    let I : Within 31 32 inc = record { plain-is = i .plain-is; upper = le→cross inc (quotient 31 32) (i .plain-is) tt (shown _ l) } in
     let W : Within 63 32 x = add-within binary32 (q .0) inc 1 1 31 32 63 32 (lit< tt) (lit< tt) (lit< tt) (refl, refl) (record { plain-is = q .1 .plain-is; upper = le-of-lt (q .1 .strict) }) I (lit≤ tt) in
     subst (λ (z : Float). T (lt z (fin false 1 (pos 1)))) (sym (q .2)) (cross→lt x (fin false 1 (pos 1)) (W .plain-is) tt (under (num x) (den x) (den-pos x) (W .upper)))
   where
@@ -166,10 +159,10 @@ advance-ok p inc h i =
 pub phase-passes : (p : Float) → Phase p → phaseOk p ≡ true
 unfolding round
 phase-passes p P =
-    rw (so (le (quotient 0 1) p) (cross→le (quotient 0 1) p tt (P .plain-is) (none (den p) (num p * 1))), so (lt p (quotient 1 1)) (cross→lt p (quotient 1 1) (P .plain-is) tt (P .strict)))
+    rw (is-true (le (quotient 0 1) p) (cross→le (quotient 0 1) p tt (P .plain-is) (zero-under (den p) (num p * 1))), is-true (lt p (quotient 1 1)) (cross→lt p (quotient 1 1) (P .plain-is) tt (P .strict)))
   where
-    none : (a b : ℕ) → 0 * a ≤ b
-    none a b = rw zero-mul (omega arith)
+    zero-under : (a b : ℕ) → 0 * a ≤ b
+    zero-under a b = rw zero-mul (omega arith)
 
 -- LAW: the step of a partial's phase, by 1 / rate
 pub step-small : (m : ℕ) (f0 stretch inv : Float) → m ≤ 32 → Within 20000 1 f0 → Within 8 1 stretch → Within 1 4096 inv → Step (stepOf m f0 stretch inv)
@@ -190,10 +183,6 @@ less-zero : (f : Format) (e : ℤ) (x : Float) → sub f x (fin true 0 e) ≡ ad
 unfolding sub neg
 less-zero f e x = refl
 
-add-neg : (f : Format) (x y : Float) → add f x (neg y) ≡ sub f x y
-unfolding sub
-add-neg f x y = refl
-
 -- from a stretch with no sign to -0
 down-to : (lo t : Float) (e : ℤ) → T (fits binary32 lo) → Within 4 1 lo → Within 1 1 t → Within 8 1 (lerp lo (fin true 0 e) t)
 unfolding round
@@ -202,16 +191,13 @@ down-to lo t e F L S =
     let D = den-pos lo in
     let self : Holds binary32 (num lo) (den lo) = fits-holds binary32 lo F (L .plain-is) in
     let U : AtMost lo u = add-within binary32 (fin false 0 e) lo 0 1 (num lo) (den lo) (num lo) (den lo) (lit< tt) D D self (zero-within 0 1 e) (up-to-self lo (L .plain-is)) (alone (num lo) (den lo)) in
-    let W : AtMost lo (mul binary32 t u) = mul-within binary32 t u 1 1 (num lo) (den lo) (num lo) (den lo) (lit< tt) D D self S U (one-of (num lo) (den lo)) in
+    let W : AtMost lo (mul binary32 t u) = mul-within binary32 t u 1 1 (num lo) (den lo) (num lo) (den lo) (lit< tt) D D self S U (one-times (num lo) (den lo)) in
     let q : lerp lo (fin true 0 e) t ≡ sub binary32 lo (mul binary32 t u) =
     ap (λ (z : Float). add binary32 lo (mul binary32 t z)) (zero-less binary32 e lo (L .plain-is))
     ∙ ap (λ (z : Float). add binary32 lo z) (mul-neg binary32 t u (S .plain-is) (U .plain-is))
     ∙ add-neg binary32 lo (mul binary32 t u) in
     subst (λ (z : Float). Within 8 1 z) (sym q) (sub-within binary32 lo (mul binary32 t u) 4 1 8 1 (lit< tt) (lit< tt) (refl, refl) L (W .plain-is) (W .upper) (lit≤ tt))
   where
-    one-of : (a c : ℕ) → 1 * a * c ≤ a * (1 * c)
-    one-of a c = simp (mul-assoc, mul-comm, mul-left-comm) (omega arith)
-
     alone : (a d : ℕ) → (0 * d + a * 1) * d ≤ a * (1 * d)
     alone a d = simp (zero-mul, zero-add, mul-assoc, mul-comm, mul-left-comm) (omega arith)
 
@@ -221,7 +207,7 @@ unfolding round
 up-from t d e W S =
     let y = mul binary32 t d in
     let Y : Within 4 1 y = mul-within binary32 t d 1 1 4 1 4 1 (lit< tt) (lit< tt) (lit< tt) (refl, refl) S W (lit≤ tt) in
-    subst (λ (z : Float). Within 8 1 z) (sym (minus-zero binary32 e y (Y .plain-is)))
+    subst (λ (z : Float). Within 8 1 z) (sym (minus-zero-plus binary32 e y (Y .plain-is)))
     (add-within binary32 (fin false 0 e) y 0 1 4 1 8 1 (lit< tt) (lit< tt) (lit< tt) (refl, refl) (zero-within 0 1 e) Y (lit≤ tt))
 
 from-zero : (hi : Float) (e : ℤ) → Within 4 1 hi ⊎ ((g : ℤ) × (hi ≡ fin true 0 g)) → Within 4 1 (sub binary32 hi (fin true 0 e))
@@ -230,7 +216,7 @@ from-zero hi e (inl H) =
     subst (λ (z : Float). Within 4 1 z) (sym (less-zero binary32 e hi))
     (add-within binary32 hi (fin false 0 e) 4 1 0 1 4 1 (lit< tt) (lit< tt) (lit< tt) (refl, refl) H (zero-within 0 1 e) (lit≤ tt))
 from-zero hi e (inr z) =
-    subst (λ (t : Float). Within 4 1 t) (sym (ap (λ (t : Float). sub binary32 t (fin true 0 e)) (z .1) ∙ less-zero binary32 e (fin true 0 (z .0)) ∙ minus-zero binary32 (z .0) (fin false 0 e) tt))
+    subst (λ (t : Float). Within 4 1 t) (sym (ap (λ (t : Float). sub binary32 t (fin true 0 e)) (z .1) ∙ less-zero binary32 e (fin true 0 (z .0)) ∙ minus-zero-plus binary32 (z .0) (fin false 0 e) tt))
     (add-within binary32 (fin false 0 (z .0)) (fin false 0 e) 0 1 0 1 4 1 (lit< tt) (lit< tt) (lit< tt) (refl, refl) (zero-within 0 1 (z .0)) (zero-within 0 1 e) (lit≤ tt))
 
 -- LAW: a stretch between two that pass the test, -0 among them, is from 0 to 8 after rounding
@@ -238,7 +224,7 @@ pub stretch-ok-within : (lo hi t : Float) → T (fits binary32 lo) → stretchOk
 stretch-ok-within lo hi t F l h S =
     let a = both-true (le (quotient 0 1) lo) (le lo (quotient 4 1)) l in
     let b = both-true (le (quotient 0 1) hi) (le hi (quotient 4 1)) h in
-    go (stretch-or lo (hold _ (a .0)) (hold _ (a .1))) (stretch-or hi (hold _ (b .0)) (hold _ (b .1)))
+    go (stretch-or lo (shown _ (a .0)) (shown _ (a .1))) (stretch-or hi (shown _ (b .0)) (shown _ (b .1)))
   where
     go : Within 4 1 lo ⊎ ((e : ℤ) × (lo ≡ fin true 0 e)) → Within 4 1 hi ⊎ ((e : ℤ) × (hi ≡ fin true 0 e)) → Within 8 1 (lerp lo hi t)
     go (inl L) (inl H) = stretch-within lo hi t F L H S

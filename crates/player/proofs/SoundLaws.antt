@@ -7,6 +7,7 @@ use native.Mathlib.Omega.{arith}
 use lib.ListN.{length, getD, take, drop, List·getD-eq-default, length-take}
 use lib.Seq.{getD-take, getD-drop}
 use mathlib.Core.Logic.{⊎-elim}
+use Rattle.float.proofs.Finite.{shown}
 use Rattle.float.proofs.Bounds.{le-or-lt}
 use lib.Dec.{eqb, ltb, lit≤}
 use lib.Ieee.{Float, nan, inf, fin, round, le, lt, eq}
@@ -30,7 +31,6 @@ use Rattle.voice.specs.declared.voice.Voice.{Voice}
 use Rattle.voice.proofs.Loops.{both-true, every-at, steps-same, length-upTo, read-any}
 use Rattle.voice.proofs.QuestionLaws.{kept, counts-are}
 use Rattle.player.proofs.PhaseLaws.{inverse-within}
-use Rattle.player.proofs.RangeLaws.{hold}
 use Rattle.filters.proofs.Tests.{rate-is}
 
 -- ---- one sample
@@ -62,7 +62,7 @@ inside (x ∷ l) (suc i) h = let k = inside l i h in omega arith
 
 no-phase : (x : Float) → x ≡ nan → phaseOk x ≡ true → ⊥
 unfolding le lt eq round
-no-phase x e h = absurd (hold (phaseOk nan) (ap (λ (z : Float). phaseOk z) (sym e) ∙ h))
+no-phase x e h = absurd (shown (phaseOk nan) (ap (λ (z : Float). phaseOk z) (sym e) ∙ h))
 
 -- a phase that passes the test is in the list
 pub phase-inside : (ps : List Float) (m i : ℕ) → phasesOk ps m ≡ true → i < m → i < length ps
@@ -96,7 +96,7 @@ voice-fits v h =
         sizes = (sizes .0, sizes .1, sizes .3);
         pitches-ok = e .0;
         stretches-ok = both-true (pitchesAscend (pitches v) (s .count)) (every (λ i. stretchOk (getD (stretches v) i nan)) (s .count)) (e .1) .1;
-        rate = rate-is (s .«sample_rate») (hold _ (r .0)) (hold _ (r .1));
+        rate = rate-is (s .«sample_rate») (shown _ (r .0)) (shown _ (r .1));
       };
       live-bands = record {
         most = sizes .4;

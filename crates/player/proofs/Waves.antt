@@ -27,20 +27,20 @@ use Rattle.wave_table.proofs.Alike.{rise-exact}
 use Rattle.filters.proofs.SineLaws.{cell-lt}
 
 -- ---- the place of a phase, and its cell, whatever the phase's format
-place-within : (p : Float) → Phase p → Within 1024 1 (placeOf p)
+place-to-1024 : (p : Float) → Phase p → Within 1024 1 (placeOf p)
 unfolding round
-place-within p h =
+place-to-1024 p h =
     mul-within binary32 p (fin false 1 (pos 10)) 1 1 1024 1 1024 1 (lit< tt) (lit< tt) (lit< tt) (refl, refl) (below-within 1 1 p h) (record { plain-is = tt; upper = lit≤ tt }) (lit≤ tt)
 
 -- small enough for `floor`
 pub place-small : (p : Float) → Phase p → Within 1048577 1 (placeOf p)
-place-small p h = widen 1024 1048577 (placeOf p) (lit≤ tt) (place-within p h)
+place-small p h = widen 1024 1048577 (placeOf p) (lit≤ tt) (place-to-1024 p h)
 
 cell-le : (p : Float) → Phase p → cellOf p ≤ 1024
 cell-le p h =
     let q = placeOf p in
-    le-trans (le-of-eq (whole-is 64 q (lit≤ tt) (widen 1024 16777216 q (lit≤ tt) (place-within p h))))
-    (div-le-of-le-mul (den q) (le-trans (le-of-eq (sym (mul-one (num q)))) (le-trans (place-within p h .upper) (le-of-eq (mul-comm 1024 (den q))))))
+    le-trans (le-of-eq (whole-is 64 q (lit≤ tt) (widen 1024 16777216 q (lit≤ tt) (place-to-1024 p h))))
+    (div-le-of-le-mul (den q) (le-trans (le-of-eq (sym (mul-one (num q)))) (le-trans (place-to-1024 p h .upper) (le-of-eq (mul-comm 1024 (den q))))))
 
 -- ---- a whole number up to 1024 as a float, and back
 module _ (n : ℕ) (h : n ≤ 1024) where
@@ -59,10 +59,10 @@ phase-cell p t h = cell-is (cellOf p) (cell-lt p t h)
 
 -- ---- a column of cells, one turn of a loop at a time
 pub cells-none : (xs : List Float) → AllCells xs 0
-cells-none xs = record { at = λ i h. absurd (none i h) }
+cells-none xs = record { at = λ i h. absurd (none-below i h) }
   where
-    none : (i : ℕ) → i < 0 → ⊥
-    none i h = omega arith
+    none-below : (i : ℕ) → i < 0 → ⊥
+    none-below i h = omega arith
 
 pub cells-more : (xs : List Float) (n : ℕ) (y : Float) → n < length xs → AllCells xs n → Cell y → AllCells (set xs n y) (n + 1)
 cells-more xs n y l h c = record { at = λ i k. go i (eq-or-lt-of-le (last i n k)) }

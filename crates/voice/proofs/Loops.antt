@@ -3,13 +3,13 @@ use mathlib.Core.Path.{_≡_, refl, sym, ap, _∙_}
 use mathlib.Core.Logic.{⊎-elim}
 use mathlib.Core.List.{List, [], _∷_, _++_, append-assoc, append-nil}
 use mathlib.Core.Bool.{Bool, true, false, _&&_}
-use Prim.Native.Nat.{ℕ, zero, suc, _+_, _*_, _%_, _≤_, _<_}
+use Prim.Native.Nat.{ℕ, zero, suc, _+_, _-_, _*_, _%_, _≤_, _<_}
 use native.Mathlib.Numerals.{add-one}
 use native.Mathlib.Nat.{add-zero, add-suc, suc-add, zero-add, suc-mul, one-mul, mul-le-mul-right, mod-lt, eq-or-lt-of-le}
 use native.Mathlib.Omega.{arith}
-use lib.ListN.{length, take, drop, getD, set, length-append, drop-of-length-le, List·getD-append, take-append-drop}
+use lib.ListN.{length, take, drop, getD, set, length-append, drop-of-length-le, List·getD-append, take-append-drop, replicate}
 use lib.Seq.{split-at, length-take-le, drop-cons, set-at, take-at, drop-at, drop-drop, getD-at, ext-getD, drop-append-le}
-use Rattle.voice.specs.Lists.{mapTo, upTo, steps, joinTo, every}
+use Rattle.voice.specs.Lists.{mapTo, upTo, steps, joinTo, every, padded}
 use Rattle.voice.specs.Input.{inputOk}
 use borrow.Author.Tests.{eqb-true}
 use lib.Dec.{leb, eqb}
@@ -213,3 +213,13 @@ module _ {A : Type 0} (f : ℕ → List A) (n : ℕ) (sized : (i : ℕ) → leng
   pub behind-last : (x ls ys : List A) (k : ℕ) → length x ≡ n → 1 ≤ k → ls ≡ joinTo (behind x f) k → ys ≡ f 0 → ys ++ drop n ls ≡ joinTo f k
   behind-last x ls ys zero h l e y = absurd (omega arith)
   behind-last x ls ys (suc k) h l e y = rw (e, y) (replaced x h k)
+
+-- ---- lists of one value, and lists made longer by it
+pub drop-replicate : {A : Type 0} (a : A) (n m : ℕ) → drop n (replicate m a) ≡ replicate (m - n) a
+drop-replicate a zero m = let e : m - 0 ≡ m = omega arith in rw e
+drop-replicate a (suc n) zero = let e : 0 - suc n ≡ 0 = omega arith in rw e
+drop-replicate a (suc n) (suc m) = let e : suc m - suc n ≡ m - n = omega arith in rw e (drop-replicate a n m)
+
+-- below the length of a list that was made longer, its elements
+pub getD-padded : {A : Type 0} (n : ℕ) (x d : A) (l : List A) (i : ℕ) → i < length l → getD (padded n x l) i d ≡ getD l i d
+getD-padded n x d l i h = List·getD-append l (replicate (n - length l) x) d i h

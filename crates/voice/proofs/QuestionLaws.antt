@@ -47,10 +47,10 @@ inputs-fit b f l0 l1 l2 l3 h =
     record { freq = p .0; g0 = q .0; g1 = r .0; g2 = s .0; g3 = s .1 }
 
 -- a question that is answered yes, and the rest
-pub asked : (b : Bool) (n r : ℕ) → ask b (suc n) r ≡ 0 → (b ≡ true) × (r ≡ 0)
+pub ask-yes : (b : Bool) (n r : ℕ) → ask b (suc n) r ≡ 0 → (b ≡ true) × (r ≡ 0)
 unfolding ask
-asked true n r h = (refl, h)
-asked false n r h = absurd (omega arith)
+ask-yes true n r h = (refl, h)
+ask-yes false n r h = absurd (omega arith)
 
 -- LAW: the number of a question is 13 to 16
 numbered : (k a b c : Bool) (q : ℕ) → q ≡ ask k 13 (ask a 14 (ask b 15 (ask c 16 0))) → (q ≡ 0 → ⊥) → (13 ≤ q) × (q ≤ 16)
@@ -74,15 +74,15 @@ pub record Accepted (c : Call) (len : ℕ) : Type 0 where
 pub call-accepted : (c : Call) (len : ℕ) → callQuestion c len ≡ 0 → Accepted c len
 unfolding callQuestion
 call-accepted c len h =
-    let p = asked _ 13 _ h in
-    let r = asked _ 14 _ (p .1) in
-    record { block = p .0; inputs = r .0; frequencies = asked _ 15 _ (r .1) .0 }
+    let p = ask-yes _ 13 _ h in
+    let r = ask-yes _ 14 _ (p .1) in
+    record { block = p .0; inputs = r .0; frequencies = ask-yes _ 15 _ (r .1) .0 }
 
 -- LAW: a play with no question has each answered yes, and question 13 too
 pub play-accepted : (v : Voice) (c : Call) (len : ℕ) → playQuestion v c len ≡ 0 → (keepsRules v ≡ true) × Accepted c len
 unfolding playQuestion
 play-accepted v c len h =
-    let p = asked _ 12 _ h in
+    let p = ask-yes _ 12 _ h in
     (p .0, call-accepted c len (p .1))
 
 -- a refusal leaves what was given
@@ -91,14 +91,14 @@ refused-out zero old new h = absurd (h refl)
 refused-out (suc q) old new h = refl
 
 -- LAW: what a voice that keeps the rules has
-pub record Kept (v : Voice) : Type 0 where
+pub record KeptRules (v : Voice) : Type 0 where
   pub counts : countsOk (v .set) ≡ true
   pub entries : entriesOk (v .lists) (v .set .count) ≡ true
   pub rate : rateOk (v .set .«sample_rate») ≡ true
   pub live : liveOk (v .set) ≡ true
   pub phases : phasesOk (v .state .phases) (v .set .m) ≡ true
 
-pub kept : (v : Voice) → keepsRules v ≡ true → Kept v
+pub kept : (v : Voice) → keepsRules v ≡ true → KeptRules v
 unfolding rulesOf
 kept v h =
     let p = both-true (countsOk (v .set)) _ h in

@@ -57,8 +57,8 @@ head-in : (channels samples len : ℕ) → 1 ≤ channels → len ≡ channels *
 head-in channels samples len h e = omega (arith, row-end 0 channels samples h, e)
 
 -- the place of another channel
-place : (ch channels samples : ℕ) → ch < channels → channels ≤ 8 → samples ≤ 128 → (ch * samples + samples ≤ channels * samples) × (channels * samples ≤ 1024)
-place ch channels samples h k l = (row-end ch channels samples h, small-product channels samples k l)
+channel-within : (ch channels samples : ℕ) → ch < channels → channels ≤ 8 → samples ≤ 128 → (ch * samples + samples ≤ channels * samples) × (channels * samples ≤ 1024)
+channel-within ch channels samples h k l = (row-end ch channels samples h, small-product channels samples k l)
 
 loop-holds : tie.Need-loop-holds Inv-loop μ-loop
 loop-holds c =
@@ -69,20 +69,20 @@ mul-at : tie.Need-mul-at Inv-loop μ-loop
 mul-at c =
     let b2 = c .before .before in
     let b9 = b2 .before .before .before .before .before .before .before in
-    omega (arith, place (b2 .loop .ch) (b9 .args .b .channels) (b9 .args .b .samples) (c .if1 .taken) (b9 .pre .4) (b9 .pre .2))
+    omega (arith, channel-within (b2 .loop .ch) (b9 .args .b .channels) (b9 .args .b .samples) (c .if1 .taken) (b9 .pre .4) (b9 .pre .2))
 
 add-to : tie.Need-add-to Inv-loop μ-loop
 add-to c =
     let b2 = c .before .before in
     let b9 = b2 .before .before .before .before .before .before .before in
-    omega (arith, place (b2 .loop .ch) (b9 .args .b .channels) (b9 .args .b .samples) (c .if1 .taken) (b9 .pre .4) (b9 .pre .2))
+    omega (arith, channel-within (b2 .loop .ch) (b9 .args .b .channels) (b9 .args .b .samples) (c .if1 .taken) (b9 .pre .4) (b9 .pre .2))
 
 mul-channel-at : tie.Need-mul-channel-at Inv-loop μ-loop
 mul-channel-at c =
     let b4 = c .before .before .before .before in
     let b6 = b4 .before .before in
     let b13 = b6 .before .before .before .before .before .before .before in
-    omega (arith, place (b6 .loop .ch) (b13 .args .b .channels) (b13 .args .b .samples) (b4 .if1 .taken) (b13 .pre .4) (b13 .pre .2))
+    omega (arith, channel-within (b6 .loop .ch) (b13 .args .b .channels) (b13 .args .b .samples) (b4 .if1 .taken) (b13 .pre .4) (b13 .pre .2))
 
 sub-channel-at : tie.Need-sub-channel-at Inv-loop μ-loop
 sub-channel-at c = search needs
@@ -95,14 +95,14 @@ part-channel-at-end c =
     let b4 = c .before .before .before .before in
     let b6 = b4 .before .before in
     let b13 = b6 .before .before .before .before .before .before .before in
-    omega (arith, place (b6 .loop .ch) (b13 .args .b .channels) (b13 .args .b .samples) (b4 .if1 .taken) (b13 .pre .4) (b13 .pre .2), b6 .loop .inv .2)
+    omega (arith, channel-within (b6 .loop .ch) (b13 .args .b .channels) (b13 .args .b .samples) (b4 .if1 .taken) (b13 .pre .4) (b13 .pre .2), b6 .loop .inv .2)
 
 channel-at-requires : tie.Need-channel-at-requires Inv-loop μ-loop
 channel-at-requires c κs =
     let b5 = c .before .before .before .before .before in
     let b7 = b5 .before .before in
     let b14 = b7 .before .before .before .before .before .before .before in
-    (b14 .pre .0, b14 .pre .1, simp (length-take, length-drop) (omega (arith, b7 .loop .inv .2, place (b7 .loop .ch) (b14 .args .b .channels) (b14 .args .b .samples) (b5 .if1 .taken) (b14 .pre .4) (b14 .pre .2))))
+    (b14 .pre .0, b14 .pre .1, simp (length-take, length-drop) (omega (arith, b7 .loop .inv .2, channel-within (b7 .loop .ch) (b14 .args .b .channels) (b14 .args .b .samples) (b5 .if1 .taken) (b14 .pre .4) (b14 .pre .2))))
 
 add-ch : tie.Need-add-ch Inv-loop μ-loop
 add-ch c =

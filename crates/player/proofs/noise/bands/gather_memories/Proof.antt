@@ -4,7 +4,7 @@ use Prim.Native.Nat.{_-_, _≤_}
 use lib.ListN.{length, getD, length-set}
 use Rattle.voice.specs.Voice.{memoryAt}
 use Rattle.player.specs.inner.Columns.{Memories}
-use Rattle.player.proofs.ColumnLaws.{memories-again, memories-full}
+use Rattle.player.proofs.ColumnLaws.{memories-stored, memories-full}
 -- `gather_memories` meets its contract.
 use borrow.Author.Needs.{needs}
 use Rattle.player.proofs.noise.bands.gather_memories.Statement.{statement}
@@ -97,7 +97,7 @@ loop-again c =
     let b4 = b2 .before .before in
     let b5 = b4 .before in
     let b9 = b5 .before .before .before .before in
-    (omega (arith, b4 .loop-test .taken), simp length-set (b5 .loop .inv .1), simp length-set (b5 .loop .inv .2), b5 .loop .inv .3, rw (b2 .band-of .ensures) (memories-again (b5 .loop .s1) (b5 .loop .s2) (b9 .args .memories .now) (b9 .args .live .now) (b5 .loop .l) (memoryAt (b9 .args .memories .now) (getD (b9 .args .live .now) (b5 .loop .l) 0)) (b5 .loop .inv .1) (b5 .loop .inv .2) (omega (arith, b4 .loop-test .taken, b9 .pre .0)) refl (b5 .loop .inv .4)))
+    (omega (arith, b4 .loop-test .taken), simp length-set (b5 .loop .inv .1), simp length-set (b5 .loop .inv .2), b5 .loop .inv .3, rw (b2 .band-of .ensures) (memories-stored (b5 .loop .s1) (b5 .loop .s2) (b9 .args .memories .now) (b9 .args .live .now) (b5 .loop .l) (memoryAt (b9 .args .memories .now) (getD (b9 .args .live .now) (b5 .loop .l) 0)) (b5 .loop .inv .1) (b5 .loop .inv .2) (omega (arith, b4 .loop-test .taken, b9 .pre .0)) refl (b5 .loop .inv .4)))
 
 returns : tie.Need-returns Inv-loop μ-loop
 returns c =

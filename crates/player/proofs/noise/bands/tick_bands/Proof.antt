@@ -6,13 +6,13 @@ use lib.ListN.{length, length-set}
 use Rattle.filters.specs.Biquad.{tickOf}
 use Rattle.player.specs.inner.Columns.{Ticked, stateOfColumns, coeffsOfRows}
 use Rattle.filters.specs.declared.biquad.BiquadState.{BiquadState}
-use Rattle.player.proofs.ColumnLaws.{Kept, kept-all, kept-again, state-kept, ticked-again, ticked-full}
+use Rattle.player.proofs.ColumnLaws.{KeptFrom, kept-all, kept-again, state-kept, ticked-again, ticked-full}
 use borrow.Author.Needs.{needs}
 use Rattle.player.proofs.noise.bands.tick_bands.Statement.{statement}
 use Rattle.player.proofs.noise.bands.tick_bands.Tie as tie
 
 abbrev Inv-loop : tie.InvT-loop
-Inv-loop coeffs x n s₀ s1₀ s2₀ l₀ s s1 s2 l = (l ≤ n) × (length s ≡ 32) × (length s1 ≡ 32) × (length s2 ≡ 32) × Kept s1 s1₀ l × Kept s2 s2₀ l × Ticked s s1 s2 s1₀ s2₀ coeffs x l
+Inv-loop coeffs x n s₀ s1₀ s2₀ l₀ s s1 s2 l = (l ≤ n) × (length s ≡ 32) × (length s1 ≡ 32) × (length s2 ≡ 32) × KeptFrom s1 s1₀ l × KeptFrom s2 s2₀ l × Ticked s s1 s2 s1₀ s2₀ coeffs x l
 
 abbrev μ-loop : tie.MeasureT-loop
 μ-loop coeffs x n s₀ s1₀ s2₀ l₀ s s1 s2 l = n - l

@@ -4,11 +4,11 @@ use Prim.Native.Nat.{ℕ, _-_, _≤_}
 use native.Mathlib.Omega.{arith}
 use lib.ListN.{length, drop, length-set}
 use lib.Ieee.{Float}
+use Rattle.float.proofs.Finite.{shown}
 use Rattle.float.specs.inner.Range.{Within}
 use Rattle.voice.specs.Input.{frequencyOf, gainsOf, cleaned}
 use Rattle.player.specs.inner.Passes.{noiseVoice, noiseOut}
 use Rattle.voice.specs.declared.voice.Voice.{Voice}
-use Rattle.player.proofs.RangeLaws.{hold}
 use Rattle.player.proofs.SoundLaws.{cleaned-within}
 use Rattle.player.proofs.NoisePass.{BandsAt, bands-at-first, bands-at-next, bands-at-last, noisy-sounds, noise-out-first, noise-out-again, noise-out-full, noise-tuned-of, of-noise-tuned, makeup-of}
 -- `noise_pass` meets its contract.
@@ -94,7 +94,7 @@ tune-noise-requires c κs =
     let f0 = b5 .frequency-at .result in
     let W = within b32 (b7 .loop .i) f0 (b5 .frequency-at .ensures) in
     let F = b32 .pre .0 in
-    ((b32 .pre .2, F .sizes .0, rw (b25 .list-of .ensures) (F .pitches-ok), W), ((rw (b21 .constants-of .ensures .1) (F .sizes .2), b32 .pre .1 .most, b32 .pre .1 .inside), λ e. of-noise-tuned v (b25 .list-of .result) (b24 .list-of2 .result) (b25 .list-of .ensures) (b24 .list-of2 .ensures) (b21 .constants-of .result) f0 _ (b7 .loop .t) (b7 .loop .inv .3 .tuned f0 (hold _ (b5 .frequency-at .ok)) W e)))
+    ((b32 .pre .2, F .sizes .0, rw (b25 .list-of .ensures) (F .pitches-ok), W), ((rw (b21 .constants-of .ensures .1) (F .sizes .2), b32 .pre .1 .most, b32 .pre .1 .inside), λ e. of-noise-tuned v (b25 .list-of .result) (b24 .list-of2 .result) (b25 .list-of .ensures) (b24 .list-of2 .ensures) (b21 .constants-of .result) f0 _ (b7 .loop .t) (b7 .loop .inv .3 .tuned f0 (shown _ (b5 .frequency-at .ok)) W e)))
 
 noise-step-requires : tie.Need-noise-step-requires Inv-loop μ-loop
 noise-step-requires c κs = search needs
@@ -169,11 +169,11 @@ loop-again c =
     let W = within b48 (b23 .loop .i) f0 (b21 .frequency-at .ensures) in
     let U = noise-tuned-of v (b41 .list-of .result) (b40 .list-of2 .result) (b41 .list-of .ensures) (b40 .list-of2 .ensures) x f0 _ (b15 .tune-noise .result) (b15 .tune-noise .ensures) in
     let M = makeup-of v (b39 .list-of3 .result) _ (b39 .list-of3 .ensures) (b25 .gather-makeup .ensures) in
-    let y = noisy-sounds v (b48 .pre .1) x (b37 .constants-of .ensures .0, b37 .constants-of .ensures .1) (b32 .gather-memories .ensures .1) (freq-of b48) (gains-of b48) (b23 .loop .i) (b23 .loop .z1) (b23 .loop .z2) (b23 .loop .rng) (b23 .loop .rows) (b23 .loop .t) (b23 .loop .inv .3) f0 (b21 .frequency-at .ensures) (hold _ (b21 .frequency-at .ok)) W _ (b15 .tune-noise .result) U (b14 .noise-step .result) (b14 .noise-step .ensures) _ _ _ _ (b29 .gather-coeffs .ensures) (b9 .tick-bands .ensures) _ _ _ (c .noise-sum .result) (b20 .gains-at .ensures) M (c .noise-sum .ensures) in (
+    let y = noisy-sounds v (b48 .pre .1) x (b37 .constants-of .ensures .0, b37 .constants-of .ensures .1) (b32 .gather-memories .ensures .1) (freq-of b48) (gains-of b48) (b23 .loop .i) (b23 .loop .z1) (b23 .loop .z2) (b23 .loop .rng) (b23 .loop .rows) (b23 .loop .t) (b23 .loop .inv .3) f0 (b21 .frequency-at .ensures) (shown _ (b21 .frequency-at .ok)) W _ (b15 .tune-noise .result) U (b14 .noise-step .result) (b14 .noise-step .ensures) _ _ _ _ (b29 .gather-coeffs .ensures) (b9 .tick-bands .ensures) _ _ _ (c .noise-sum .result) (b20 .gains-at .ensures) M (c .noise-sum .ensures) in (
       omega (arith, b22 .loop-test .taken, b23 .loop .inv .1),
       simp length-set (b23 .loop .inv .1),
       noise-out-again v (freq-of b48) (gains-of b48) (b23 .loop .i) (b48 .args .out .now) (b23 .loop .out) (c .noise-sum .result) (omega (arith, b22 .loop-test .taken, b23 .loop .inv .1)) (b23 .loop .inv .2) y,
-      bands-at-next v (b48 .pre .1) x (b37 .constants-of .ensures .0, b37 .constants-of .ensures .1) (b32 .gather-memories .ensures .1) (freq-of b48) (gains-of b48) (b23 .loop .i) (b23 .loop .z1) (b23 .loop .z2) (b23 .loop .rng) (b23 .loop .rows) (b23 .loop .t) (b23 .loop .inv .3) f0 (b21 .frequency-at .ensures) (hold _ (b21 .frequency-at .ok)) W _ (b15 .tune-noise .result) U (b14 .noise-step .result) (b14 .noise-step .ensures) _ _ _ _ (b29 .gather-coeffs .ensures) (b9 .tick-bands .ensures),
+      bands-at-next v (b48 .pre .1) x (b37 .constants-of .ensures .0, b37 .constants-of .ensures .1) (b32 .gather-memories .ensures .1) (freq-of b48) (gains-of b48) (b23 .loop .i) (b23 .loop .z1) (b23 .loop .z2) (b23 .loop .rng) (b23 .loop .rows) (b23 .loop .t) (b23 .loop .inv .3) f0 (b21 .frequency-at .ensures) (shown _ (b21 .frequency-at .ok)) W _ (b15 .tune-noise .result) U (b14 .noise-step .result) (b14 .noise-step .ensures) _ _ _ _ (b29 .gather-coeffs .ensures) (b9 .tick-bands .ensures),
     )
 
 scatter-memories-requires : tie.Need-scatter-memories-requires Inv-loop μ-loop

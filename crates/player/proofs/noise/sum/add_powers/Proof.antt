@@ -6,13 +6,13 @@ use lib.ListN.{length, getD, length-set}
 use lib.Ieee.{nan}
 use Rattle.player.specs.inner.Columns.{Filled}
 use Rattle.float.specs.F32.{_⊕_, _⊗_}
-use Rattle.player.proofs.ColumnLaws.{filled-none, filled-again, filled-full, Kept, kept-all, kept-again}
+use Rattle.player.proofs.ColumnLaws.{filled-none, filled-again, filled-full, KeptFrom, kept-all, kept-again}
 use borrow.Author.Needs.{needs}
 use Rattle.player.proofs.noise.sum.add_powers.Statement.{statement}
 use Rattle.player.proofs.noise.sum.add_powers.Tie as tie
 
 abbrev Inv-loop : tie.InvT-loop
-Inv-loop rows gain q n s₀ l₀ s l = (l ≤ n) × (length s ≡ 32) × Kept s s₀ l × Filled s (λ l. getD s₀ l nan ⊕ (gain ⊗ getD rows (q * 32 + l) nan) ⊗ (gain ⊗ getD rows (q * 32 + l) nan)) l
+Inv-loop rows gain q n s₀ l₀ s l = (l ≤ n) × (length s ≡ 32) × KeptFrom s s₀ l × Filled s (λ l. getD s₀ l nan ⊕ (gain ⊗ getD rows (q * 32 + l) nan) ⊗ (gain ⊗ getD rows (q * 32 + l) nan)) l
 
 abbrev μ-loop : tie.MeasureT-loop
 μ-loop rows gain q n s₀ l₀ s l = n - l

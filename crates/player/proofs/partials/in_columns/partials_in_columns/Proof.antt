@@ -4,11 +4,11 @@ use Prim.Native.Nat.{ℕ, _-_, _≤_}
 use native.Mathlib.Omega.{arith}
 use lib.ListN.{length, drop, length-set}
 use lib.Ieee.{Float}
+use Rattle.float.proofs.Finite.{shown}
 use Rattle.float.specs.inner.Range.{Within}
 use Rattle.voice.specs.Input.{frequencyOf, gainsOf, cleaned}
 use Rattle.player.specs.inner.Passes.{partialsVoice, partialsOut}
 use Rattle.voice.specs.declared.voice.Voice.{Voice}
-use Rattle.player.proofs.RangeLaws.{hold}
 use Rattle.player.proofs.SoundLaws.{ConstantsOf, cleaned-within, inverse-small}
 use Rattle.player.proofs.PartialLaws.{tuned-voice, all-phases}
 use Rattle.player.proofs.PartialsPass.{PartialsAt, partials-at-first, partials-at-next, sounds, partials-out-first, partials-out-again, partials-out-full, tuned-of, of-tuned}
@@ -84,7 +84,7 @@ tune-requires c κs =
     let W = within b23 (b10 .loop .i) f0 (b8 .frequency-at .ensures) in
     let X : ConstantsOf v (b12 .constants-of .result) = b12 .constants-of .ensures in
     let F = b23 .pre .0 in
-    ((b23 .pre .2, F .sizes .0, rw (b16 .list-of .ensures) (F .pitches-ok), rw (b15 .list-of2 .ensures) (F .stretches-ok), W), ((rw (X .2) (F .sizes .1), rw (X .1) (F .sizes .2), subst (λ (z : Float). Within 1 4096 z) (sym (X .3)) (inverse-small (b23 .args .set) (b23 .args .lists .now) F)), λ e. of-tuned v (b16 .list-of .result) (b15 .list-of2 .result) (b14 .list-of3 .result) (b16 .list-of .ensures) (b15 .list-of2 .ensures) (b14 .list-of3 .ensures) (b12 .constants-of .result) f0 _ _ _ (b10 .loop .t) (b10 .loop .inv .3 .tuned f0 (hold _ (b8 .frequency-at .ok)) W e)))
+    ((b23 .pre .2, F .sizes .0, rw (b16 .list-of .ensures) (F .pitches-ok), rw (b15 .list-of2 .ensures) (F .stretches-ok), W), ((rw (X .2) (F .sizes .1), rw (X .1) (F .sizes .2), subst (λ (z : Float). Within 1 4096 z) (sym (X .3)) (inverse-small (b23 .args .set) (b23 .args .lists .now) F)), λ e. of-tuned v (b16 .list-of .result) (b15 .list-of2 .result) (b14 .list-of3 .result) (b16 .list-of .ensures) (b15 .list-of2 .ensures) (b14 .list-of3 .ensures) (b12 .constants-of .result) f0 _ _ _ (b10 .loop .t) (b10 .loop .inv .3 .tuned f0 (shown _ (b8 .frequency-at .ok)) W e)))
 
 move-phases-requires : tie.Need-move-phases-requires Inv-loop μ-loop
 move-phases-requires c κs =
@@ -167,11 +167,11 @@ loop-again c =
     let f0 = b26 .frequency-at .result in
     let W = within b41 (b28 .loop .i) f0 (b26 .frequency-at .ensures) in
     let U = tuned-of v (b34 .list-of .result) (b33 .list-of2 .result) (b32 .list-of3 .result) (b34 .list-of .ensures) (b33 .list-of2 .ensures) (b32 .list-of3 .ensures) x f0 _ _ _ (b17 .tune .result) (b17 .tune .ensures) in
-    let y = sounds v x (b30 .constants-of .ensures) (freq-of b41) (gains-of b41) (b28 .loop .i) (b28 .loop .phases) (b28 .loop .incs) (b28 .loop .fades) (b28 .loop .rows) (b28 .loop .t) (b28 .loop .inv .3) f0 (b26 .frequency-at .ensures) (hold _ (b26 .frequency-at .ok)) W _ _ _ (b17 .tune .result) U _ (b14 .move-phases .ensures) _ _ (c .partial-sum .result) (b25 .gains-at .ensures) (b7 .sines-of .ensures) (c .partial-sum .ensures) in (
+    let y = sounds v x (b30 .constants-of .ensures) (freq-of b41) (gains-of b41) (b28 .loop .i) (b28 .loop .phases) (b28 .loop .incs) (b28 .loop .fades) (b28 .loop .rows) (b28 .loop .t) (b28 .loop .inv .3) f0 (b26 .frequency-at .ensures) (shown _ (b26 .frequency-at .ok)) W _ _ _ (b17 .tune .result) U _ (b14 .move-phases .ensures) _ _ (c .partial-sum .result) (b25 .gains-at .ensures) (b7 .sines-of .ensures) (c .partial-sum .ensures) in (
       omega (arith, b27 .loop-test .taken, b28 .loop .inv .1),
       simp length-set (b28 .loop .inv .1),
       partials-out-again v (freq-of b41) (gains-of b41) (b28 .loop .i) (b41 .args .out .now) (b28 .loop .out) (c .partial-sum .result) (omega (arith, b27 .loop-test .taken, b28 .loop .inv .1)) (b28 .loop .inv .2) y,
-      partials-at-next v x (b30 .constants-of .ensures) (freq-of b41) (gains-of b41) (b28 .loop .i) (b28 .loop .phases) (b28 .loop .incs) (b28 .loop .fades) (b28 .loop .rows) (b28 .loop .t) (b28 .loop .inv .3) f0 (b26 .frequency-at .ensures) (hold _ (b26 .frequency-at .ok)) W _ _ _ (b17 .tune .result) U _ (b14 .move-phases .ensures),
+      partials-at-next v x (b30 .constants-of .ensures) (freq-of b41) (gains-of b41) (b28 .loop .i) (b28 .loop .phases) (b28 .loop .incs) (b28 .loop .fades) (b28 .loop .rows) (b28 .loop .t) (b28 .loop .inv .3) f0 (b26 .frequency-at .ensures) (shown _ (b26 .frequency-at .ok)) W _ _ _ (b17 .tune .result) U _ (b14 .move-phases .ensures),
     )
 
 same-length : tie.Need-same-length Inv-loop μ-loop

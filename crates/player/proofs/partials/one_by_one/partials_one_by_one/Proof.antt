@@ -6,13 +6,13 @@ use native.Mathlib.Omega.{arith}
 use lib.ListN.{length, drop, length-set}
 use lib.Dec.{T}
 use lib.Ieee.{Float, binary32, eq, fits}
+use Rattle.float.proofs.Finite.{shown}
 use Rattle.float.specs.inner.Range.{Within}
 use Rattle.voice.specs.Input.{frequencyOf, gainsOf, cleaned}
 use Rattle.voice.specs.Voice.{listAt, phasesOk}
 use Rattle.player.specs.inner.Passes.{partialsVoice, phasesAt, partialsOut}
 use Rattle.player.specs.inner.Tuning.{PitchAt}
 use Rattle.voice.specs.declared.voice.Voice.{Voice}
-use Rattle.player.proofs.RangeLaws.{hold}
 use Rattle.player.proofs.SoundLaws.{ConstantsOf, cleaned-within, inverse-small}
 use Rattle.player.proofs.PartialsPass.{sample-of-is, phases-is, phases-keep, few-sounds, pitch-stays, pitch-of, no-pitch-yet, phases-first, phases-again, partials-out-first, partials-out-again, partials-out-full, pitched-of, of-pitched}
 -- `partials_one_by_one` meets its contract.
@@ -85,7 +85,7 @@ pitch-kept-requires c κs =
     let f0 = b4 .frequency-at .result in
     let W = within b19 (b6 .loop .i) f0 (b4 .frequency-at .ensures) in
     let F = b19 .pre .0 in
-    ((b19 .pre .2, F .sizes .0, rw (b12 .list-of .ensures) (F .pitches-ok), rw (b11 .list-of2 .ensures) (F .stretches-ok), W), λ e. of-pitched v (b12 .list-of .result) (b11 .list-of2 .result) (b10 .list-of3 .result) (b12 .list-of .ensures) (b11 .list-of2 .ensures) (b10 .list-of3 .ensures) f0 (b6 .loop .p) (b6 .loop .inv .5 f0 (hold _ (b4 .frequency-at .ok)) W e))
+    ((b19 .pre .2, F .sizes .0, rw (b12 .list-of .ensures) (F .pitches-ok), rw (b11 .list-of2 .ensures) (F .stretches-ok), W), λ e. of-pitched v (b12 .list-of .result) (b11 .list-of2 .result) (b10 .list-of3 .result) (b12 .list-of .ensures) (b11 .list-of2 .ensures) (b10 .list-of3 .ensures) f0 (b6 .loop .p) (b6 .loop .inv .5 f0 (shown _ (b4 .frequency-at .ok)) W e))
 
 sample-of-requires : tie.Need-sample-of-requires Inv-loop μ-loop
 sample-of-requires c κs =
@@ -153,7 +153,7 @@ loop-again c =
       partials-out-again v (freq-of b24) (gains-of b24) (b11 .loop .i) (b24 .args .out .now) (b11 .loop .out) (c .sample-of .result) (omega (arith, b10 .loop-test .taken, b11 .loop .inv .1)) (b11 .loop .inv .2) y,
       phases-again v (freq-of b24) (b11 .loop .i) (b11 .loop .phases) _ f0 (b11 .loop .inv .3) (b9 .frequency-at .ensures) (phases-is v f0 x p X P (b11 .loop .phases) _ (c .sample-of .ensures .1)),
       phases-keep v f0 x p X P (b11 .loop .phases) _ (b24 .pre .0) W (K .small) (c .sample-of .ensures .1) (b11 .loop .inv .4),
-      pitch-stays v p f0 (hold _ (b9 .frequency-at .ok)) W K,
+      pitch-stays v p f0 (shown _ (b9 .frequency-at .ok)) W K,
     )
 
 same-length : tie.Need-same-length Inv-loop μ-loop

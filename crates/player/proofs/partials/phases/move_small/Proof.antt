@@ -2,8 +2,9 @@ use mathlib.Core.Logic.{⊎-elim}
 use lib.ListN.{set}
 use lib.Ieee.{le}
 use lib.Ieee.Fits.{add-fits}
+use Rattle.float.proofs.Finite.{shown}
 use Rattle.float.proofs.Fraction.{fraction-below, fraction-over, not-lt, one}
-use Rattle.player.proofs.RangeLaws.{hold, sum-ok, sum-under-two, turn-phase}
+use Rattle.player.proofs.RangeLaws.{sum-ok, sum-under-two, turn-phase}
 use Rattle.voice.proofs.Loops.{every-at, mapTo-again, mapTo-full}
 -- `move_small` meets its contract.
 use mathlib.Core.Path.{_≡_, refl, sym, ap, _∙_}
@@ -65,7 +66,7 @@ loop-again c =
     let S = b5 .pre .2 .at (b4 .loop .i) (b3 .loop-test .taken) in
     let L = every-at (λ i. le (getD (b5 .args .incs .now) i nan) (quotient 31 32)) (b5 .args .m) (b4 .loop .i) (b5 .pre .3) (b3 .loop-test .taken) in
     let W = sum-ok p inc P S in
-    let e : c .if1 .phases ≡ advanceOf p inc = ⊎-elim (λ w. w .1 ∙ sym (fraction-below (p ⊕ inc) (add-fits binary32 p inc) W (hold _ (w .0 .taken)))) (λ w. w .1 ∙ sym (fraction-over (p ⊕ inc) W (not-lt (p ⊕ inc) one (W .plain-is) tt (w .0 .left)) (sum-under-two p inc P S L))) (c .if1 .came) in
+    let e : c .if1 .phases ≡ advanceOf p inc = ⊎-elim (λ w. w .1 ∙ sym (fraction-below (p ⊕ inc) (add-fits binary32 p inc) W (shown _ (w .0 .taken)))) (λ w. w .1 ∙ sym (fraction-over (p ⊕ inc) W (not-lt (p ⊕ inc) one (W .plain-is) tt (w .0 .left)) (sum-under-two p inc P S L))) (c .if1 .came) in
     (omega (arith, b3 .loop-test .taken), ap (λ (z : Float). set (b4 .loop .phases) (b4 .loop .i) z) e ∙ mapTo-again (λ i p. advanceOf p (getD (b5 .args .incs .now) i nan)) nan (b4 .loop .i) (b5 .args .phases .now) (b4 .loop .phases) (b4 .loop .inv .1))
 
 returns : tie.Need-returns Inv-loop μ-loop

@@ -7,13 +7,13 @@ use lib.ListN.{length, getD, length-set}
 use lib.Ieee.{Float, nan, ofBits}
 use Rattle.player.specs.inner.Columns.{Filled}
 use Rattle.player.specs.inner.Sines.{lineAt}
-use Rattle.player.proofs.ColumnLaws.{Kept, filled-none, filled-again, filled-full, kept-all, kept-again}
+use Rattle.player.proofs.ColumnLaws.{KeptFrom, filled-none, filled-again, filled-full, kept-all, kept-again}
 use Rattle.player.proofs.partials.sines.values.Statement.{statement}
 use Rattle.player.proofs.partials.sines.values.Tie as tie
 
 -- the places before i are done, the others as they were
 abbrev Inv-loop : tie.InvT-loop
-Inv-loop sines₀ rests rises m i₀ sines i = (i ≤ m) × (length sines ≡ length sines₀) × Filled sines (λ j. lineAt (getD sines₀ j nan) (getD rests j nan) (getD rises j nan)) i × Kept sines sines₀ i
+Inv-loop sines₀ rests rises m i₀ sines i = (i ≤ m) × (length sines ≡ length sines₀) × Filled sines (λ j. lineAt (getD sines₀ j nan) (getD rests j nan) (getD rises j nan)) i × KeptFrom sines sines₀ i
 
 abbrev μ-loop : tie.MeasureT-loop
 μ-loop sines₀ rests rises m i₀ sines i = m - i
