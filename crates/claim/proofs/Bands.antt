@@ -46,13 +46,13 @@ module _ (k : Kind) (es : List PitchEntry) where
     tick-live : (b n : ℕ) (ns : List Float) → b < 16 → isLive k es b ≡ true → getD live n 0 ≡ b → BandsTurned lists x ms b ns → BandsTurned lists x ms (suc b) (liveTick live lists x n ns)
     tick-live b n ns h t e T =
         let new = tickOf (memoryAt ns b) x (bandAt lists b) .state in
-        let turn : memoryAt (withMemory ns b new) b ≡ bandTick (isLive k es b) lists x ms b =
+        let own-turn : memoryAt (withMemory ns b new) b ≡ bandTick (isLive k es b) lists x ms b =
         memory-written ns b new (omega (arith, T .size)) ∙ rw (t, T .above b (omega arith)) in
         rw e
         (record {
           size = length-with ns b new ∙ T .size;
           below = λ i l.
-              ⊎-elim (λ (q : i ≡ b). rw q turn) (λ (q : i < b). memory-kept ns i b new (λ (z : i ≡ b). omega arith) ∙ T .below i q)
+              ⊎-elim (λ (q : i ≡ b). rw q own-turn) (λ (q : i < b). memory-kept ns i b new (λ (z : i ≡ b). omega arith) ∙ T .below i q)
               (eq-or-lt-of-le (omega arith));
           above = λ i l. memory-kept ns i b new (λ (z : i ≡ b). omega arith) ∙ T .above i (omega arith);
         })

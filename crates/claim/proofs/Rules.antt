@@ -5,19 +5,20 @@ use mathlib.Core.Bool.{Bool, true, false, cond}
 use Prim.Native.Nat.{ℕ, zero, suc, _+_, _*_, _%_, _≤_, _<_}
 use native.Mathlib.Nat.{suc-add, add-suc, add-zero}
 use native.Mathlib.Omega.{arith}
-use lib.ListN.{getD, take, drop, getD-replicate}
+use lib.ListN.{getD, take, drop}
 use lib.Dec.{T, eqb}
-use lib.Ieee.{Float, nan, binary32, round, le, lt, eq, fits}
+use lib.Ieee.{Float, nan, binary32, lt, fits}
 use lib.Ieee.Fits.{round-fits, cond-fits}
 use lib.Ieee.Scale.{finite}
 use borrow.Author.Tests.{eqb-false}
+use Rattle.making.proofs.FreshLaws.{phases-ok}
 use Rattle.float.specs.inner.Range.{Within}
 use Rattle.float.specs.F32.{quotient}
 use Rattle.player.specs.Phase.{advanceOf}
 use Rattle.player.specs.inner.Ranges.{Step}
 use Rattle.voice.specs.Lists.{mapTo, steps}
 use Rattle.voice.specs.Input.{Call, partOf, frequencyAt, frequencyOk, cleaned}
-use Rattle.voice.specs.Voice.{pitches, stretches, phaseOk, pitchOk, stretchOk, countsOk, phasesOk, rulesOf, keepsRules, voiceOf, withState, firstState}
+use Rattle.voice.specs.Voice.{pitches, stretches, phaseOk, pitchOk, stretchOk, phasesOk, rulesOf, keepsRules, voiceOf, withState, firstState}
 use Rattle.player.specs.Sound.{sidesAt, stretchAt, stepAt, movedPhases, moved}
 use Rattle.player.specs.Bands.{allLive, ticking}
 use Rattle.player.specs.Block.{stateAt, blockEnd}
@@ -28,7 +29,7 @@ use Rattle.voice.specs.Restart.{resetOf, reseedOf, reseededState}
 use Rattle.voice.specs.declared.voice.State.{State}
 use Rattle.voice.specs.declared.voice.Voice.{Voice}
 use Rattle.voice.proofs.Loops.{every-at, at-every}
-use Rattle.voice.proofs.QuestionLaws.{kept, counts-are, call-accepted}
+use Rattle.voice.proofs.QuestionLaws.{kept, call-accepted}
 use Rattle.player.proofs.BandLaws.{ticking-rules}
 use Rattle.player.proofs.PhaseLaws.{step-step}
 use Rattle.player.proofs.RangeLaws.{advance-ok, phase-passes}
@@ -52,12 +53,6 @@ phases-of v h = kept v h .phases
 
 pub phases-most : (v : Voice) → keepsRules v ≡ true → v .set .m ≤ 32
 phases-most v h = voice-fits v h .entries .sizes .1
-
-pub bands-most : (v : Voice) → keepsRules v ≡ true → v .set .j ≤ 16
-unfolding countsOk
-bands-most v h =
-    let s = v .set in
-    counts-are (s .count) (s .m) (s .j) (s .k) (s .«live_count») (kept v h .counts) .2
 
 -- another running state, whose phases pass
 pub rules-with : (v : Voice) (s : State) → keepsRules v ≡ true → phasesOk (s .phases) (v .set .m) ≡ true → keepsRules (withState v s) ≡ true
@@ -147,13 +142,6 @@ accepted-rules : (q : ℕ) (v w : Voice) → keepsRules v ≡ true → (q ≡ 0 
 accepted-rules zero v w h k = k refl
 accepted-rules (suc q) v w h k = h
 
-pub first-ok : (m : ℕ) → m ≤ 32 → phasesOk (firstState .phases) m ≡ true
-unfolding phasesOk
-first-ok m h = at-every (λ i. phaseOk (getD (firstState .phases) i nan)) m (λ i l. rw (getD-replicate 32 i (quotient 0 1) nan (omega arith)) zero-ok)
-  where
-    zero-ok : phaseOk (quotient 0 1) ≡ true
-    zero-ok = unfold round le lt eq in refl
-
 -- as it is played, a voice has as many phases and entries as it has
 ticking-phases : (v : Voice) → ticking v .set .m ≡ v .set .m
 ticking-phases v = cond-both (eqb (v .set .blend) 0)
@@ -183,7 +171,7 @@ rules-kept v (playing p) W h =
     rules-with v (blockEnd w c) h
     (subst (λ (m : ℕ). phasesOk (blockEnd w c .phases) m ≡ true) (ticking-phases v)
     (stateAt-ok w (voice-fits w k .entries) (ticking-32 v W) (frequencyAt c 0) n (frequencies-fit (c .shape .freq) n 0 (c .freq) (A .frequencies)) (frequency-fits p 0) (phases-of w k))))
-rules-kept v resetting W h = accepted-rules (ask (keepsRules v) 13 0) v (withState v firstState) h (λ e. rules-with v firstState h (first-ok (v .set .m) (phases-most v h)))
+rules-kept v resetting W h = accepted-rules (ask (keepsRules v) 13 0) v (withState v firstState) h (λ e. rules-with v firstState h (phases-ok (v .set .m) (phases-most v h)))
 rules-kept v (reseeding n) W h =
     accepted-rules (ask (keepsRules v) 13 0) v (withState v (reseededState (v .state) n)) h (λ e. rules-with v (reseededState (v .state) n) h (phases-of v h))
 

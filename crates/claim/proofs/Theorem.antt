@@ -8,6 +8,7 @@ use lib.Dec.{T}
 use lib.Ieee.{Float, nan, binary32, fits, le, lt}
 use lib.Ieee.Fits.{nan-fits}
 use lib.Ieee.Bits.{ofBits-fits}
+use Rattle.player.proofs.BandLaws.{bands-most}
 use Rattle.wire.specs.Parse.{Parsed}
 use Rattle.table.specs.declared.desk.Kind.{Kind}
 use Rattle.table.specs.Table.{PitchEntry, CoeffTable}
@@ -21,9 +22,8 @@ use Rattle.voice.specs.declared.voice.Voice.{Voice}
 use Rattle.claim.specs.Machine.{machine, plainOf, supplied, machineFrom}
 use Rattle.claim.specs.Calls.{VoiceCall, run, fed, running}
 use Rattle.claim.specs.Claim.{PhasesIn, Claim}
-use Rattle.voice.proofs.Loops.{both-true, every-at}
-use Rattle.claim.proofs.Folds.{getD-padded}
-use Rattle.claim.proofs.Rules.{VoiceF32, phases-of, phases-most, bands-most, rules-kept-run}
+use Rattle.voice.proofs.Loops.{both-true, every-at, getD-padded}
+use Rattle.claim.proofs.Rules.{VoiceF32, phases-of, phases-most, rules-kept-run}
 use Rattle.claim.proofs.Moves.{first-sized, view-first, view-run}
 use Rattle.making.proofs.MakingLaws.{Accepted}
 use Rattle.making.proofs.AcceptedLaws.{make-accepted}

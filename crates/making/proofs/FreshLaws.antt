@@ -1,6 +1,6 @@
 -- A fresh voice keeps the voice rules: question 13 is answered yes of every voice that a making gives. Assumes nothing.
 use Prim.Native.Nat.{ℕ, zero, suc, _+_, _-_, _*_, _≤_, _<_}
-use mathlib.Core.Path.{_≡_, refl, ap, sym, subst, _∙_}
+use mathlib.Core.Path.{_≡_, refl, ap, _∙_}
 use mathlib.Core.Logic.{_⊎_, inl, inr}
 use mathlib.Core.List.{List, [], _∷_, _++_, map, append-nil}
 use mathlib.Core.Bool.{Bool, true, false, _&&_, cond}
@@ -12,19 +12,21 @@ use lib.Dec.{T, leb, ltb}
 use lib.Ieee.{Float, nan, inf, fin, round, lt, le, eq}
 use lib.Ieee.Scale.{finite}
 use borrow.Author.Tests.{leb-true, le-leb, lt-ltb}
+use lib.Ieee.Bits.{is-true}
+use Rattle.float.proofs.Finite.{shown}
 use Rattle.float.proofs.Compare.{finite-not-lt, lt-le}
 use Rattle.table.specs.declared.desk.Kind.{Kind}
 use Rattle.table.specs.Table.{PitchEntry, mPartials, hasChannel, metadataValue}
 use Rattle.table.specs.Decode.{decode, entriesOf}
 use Rattle.table.specs.Desk.{bandCount}
 use Rattle.float.specs.F32.{quotient}
-use Rattle.voice.specs.Lists.{steps, joinTo, every, padded}
+use Rattle.voice.specs.Lists.{joinTo, every, padded}
 use Rattle.voice.specs.Voice.{pitchOk, stretchOk, phaseOk, pitchesAscend, bandsAscend, countsOk, entriesOk, liveOk, phasesOk, rulesOf, keepsRules, pitches, stretches, bandAt}
 use Rattle.filters.specs.Biquad.{noiseBand}
 use Rattle.filters.specs.Band.{zeroCoeffs}
 use Rattle.making.proofs.PutLaws.{length-mapped, getD-past, list-first, list-later, joinTo-at}
 use Rattle.making.specs.Making.{f32, all, sizesOk, valuesOk, keeps, insertByPitch, gathered, voiceEntries, channelCount, partialCoeff, isNonzero, presentFinite, mainlobeKey, noiseGainKey, partialReach, reachIn, most, phasesFor, phaseCount, isLive, liveBands, gainOf, coeffFloats, freshLists, freshVoice, Making, makeQuestion}
-use Rattle.voice.proofs.Loops.{both-true, length-joinTo}
+use Rattle.voice.proofs.Loops.{both-true, length-joinTo, at-every, getD-padded}
 use Rattle.making.proofs.SortLaws.{all-insert, all-gathered, bands-few}
 use Rattle.making.proofs.MakingLaws.{Accepted, live-short}
 use Rattle.making.proofs.AcceptedLaws.{make-accepted}
@@ -35,25 +37,16 @@ unfolding all
 all-imp f g [] i h = refl
 all-imp f g (a ∷ l) i h = let p = both-true (f a) (all f l) h in rw (i a (p .0)) (all-imp f g l i (p .1))
 
-every-is : (test : ℕ → Bool) (n : ℕ) → ((i : ℕ) → i < n → test i ≡ true) → every test n ≡ true
-unfolding steps
-every-is test zero h = refl
-every-is test (suc n) h = rw (every-is test n (λ i k. h i (omega arith)), h n (omega arith)) refl
-
 all-getD : {A : Type 0} (test : Float → Bool) (g : A → Float) (l : List A) (i : ℕ) → all (λ e. test (g e)) l ≡ true → i < length l → test (getD (map g l) i nan) ≡ true
 unfolding all
 all-getD test g [] i h k = absurd (omega arith)
 all-getD test g (a ∷ l) zero h k = both-true (test (g a)) (all (λ e. test (g e)) l) h .0
 all-getD test g (a ∷ l) (suc i) h k = all-getD test g l i (both-true (test (g a)) (all (λ e. test (g e)) l) h .1) (omega arith)
 
--- a place of a padded array that is in use
-padded-at : {A : Type 0} (z d : A) (n i : ℕ) (l : List A) → i < length l → getD (padded n z l) i d ≡ getD l i d
-padded-at z d n i l h = List·getD-append l (replicate (n - length l) z) d i h
-
 padded-all : {A : Type 0} (test : Float → Bool) (g : A → Float) (z : Float) (n : ℕ) (l : List A) → all (λ e. test (g e)) l ≡ true
     → every (λ i. test (getD (padded n z (map g l)) i nan)) (length l) ≡ true
-padded-all test g z n l h = every-is _ (length l) λ i k.
-    ap test (padded-at z nan n i (map g l) (rw (length-map l g) k)) ∙ all-getD test g l i h k
+padded-all test g z n l h = at-every _ (length l) λ i k.
+    ap test (getD-padded n z nan (map g l) i (rw (length-map l g) k)) ∙ all-getD test g l i h k
 
 -- ---- sorted entries ascend
 abbrev pitch : PitchEntry → Float
@@ -71,13 +64,6 @@ pitch-finite nan h = let z : _≡_ {A = ℕ} 0 1 = cc in absurd (omega arith)
 pitch-finite (inf true) h = let z : _≡_ {A = ℕ} 0 1 = cc in absurd (omega arith)
 pitch-finite (inf false) h = let z : _≡_ {A = ℕ} 0 1 = cc in absurd (omega arith)
 pitch-finite (fin s m e) h = tt
-
-T-true : (b : Bool) → T b → b ≡ true
-T-true true t = refl
-T-true false t = absurd t
-
-true-T : (b : Bool) → b ≡ true → T b
-true-T b e = subst T (sym e) tt
 
 -- an entry of at most the first pitch goes before
 ascends-cons : (x : PitchEntry) (l : List PitchEntry) → ascends l ≡ true → ((y : PitchEntry) (m : List PitchEntry) → l ≡ y ∷ m → le (pitch x) (pitch y) ≡ true) → ascends (x ∷ l) ≡ true
@@ -115,8 +101,8 @@ insert-ascends e (x ∷ l) p a h =
     go : (b : Bool) → lt (pitch e) (pitch x) ≡ b → pitchOk (pitch x) ≡ true → ascends (insertByPitch e l) ≡ true → ascends (cond b (e ∷ x ∷ l) (x ∷ insertByPitch e l)) ≡ true
     go true q o ih = ascends-cons e (x ∷ l) h (λ y m r.
         let s : x ≡ y = cc in
-        rw (← s) (T-true (le (pitch e) (pitch x)) (lt-le (pitch e) (pitch x) (true-T (lt (pitch e) (pitch x)) q))))
-    go false q o ih = ascends-cons x (insertByPitch e l) ih (first-is e x l h (T-true (le (pitch x) (pitch e)) (finite-not-lt (pitch e) (pitch x) (pitch-finite (pitch e) p) (pitch-finite (pitch x) o) q)))
+        rw (← s) (is-true (le (pitch e) (pitch x)) (lt-le (pitch e) (pitch x) (shown (lt (pitch e) (pitch x)) q))))
+    go false q o ih = ascends-cons x (insertByPitch e l) ih (first-is e x l h (is-true (le (pitch x) (pitch e)) (finite-not-lt (pitch e) (pitch x) (pitch-finite (pitch e) p) (pitch-finite (pitch x) o) q)))
 
 gathered-ascends : (k : Kind) (before es : List PitchEntry) → all (λ x. pitchOk (pitch x)) before ≡ true → all (λ x. pitchOk (pitch x)) es ≡ true → ascends before ≡ true
     → (all (λ x. pitchOk (pitch x)) (gathered k before es) ≡ true) × (ascends (gathered k before es) ≡ true)
@@ -143,9 +129,9 @@ ascends-at (x ∷ y ∷ l) (suc i) h k =
     rw q (ascends-at (y ∷ l) i (both-true (le (pitch x) (pitch y)) (ascends (y ∷ l)) h .1) (omega arith))
 
 pitches-ascend : (l : List PitchEntry) → ascends l ≡ true → pitchesAscend (padded 16 (quotient 0 1) (map pitch l)) (length l) ≡ true
-pitches-ascend l h = every-is _ (length l - 1) λ i k.
+pitches-ascend l h = at-every _ (length l - 1) λ i k.
     let n = length-map l pitch in
-    rw (padded-at (quotient 0 1) nan 16 i (map pitch l) (omega arith), padded-at (quotient 0 1) nan 16 (i + 1) (map pitch l) (omega arith)) (ascends-at l i h (omega arith))
+    rw (getD-padded 16 (quotient 0 1) nan (map pitch l) i (omega arith), getD-padded 16 (quotient 0 1) nan (map pitch l) (i + 1) (omega arith)) (ascends-at l i h (omega arith))
 
 -- ---- counts
 insert-length : (e : PitchEntry) (l : List PitchEntry) → length (insertByPitch e l) ≡ suc (length l)
@@ -249,20 +235,20 @@ live-rising k es (suc b) = go (isLive k es b) (live-rising k es b)
     go false r = rw (append-nil (liveBands k es b)) (rising-more b (liveBands k es b) r)
 
 bands-below : (b : ℕ) (l : List ℕ) → Rising b l → every (λ i. ltb (getD (padded 16 0 l) i 0) b) (length l) ≡ true
-bands-below b l r = every-is _ (length l) λ i k. rw (padded-at 0 0 16 i l k) (lt-ltb (getD l i 0) b (r .below i k))
+bands-below b l r = at-every _ (length l) λ i k. rw (getD-padded 16 0 0 l i k) (lt-ltb (getD l i 0) b (r .below i k))
 
 bands-ascend : (b : ℕ) (l : List ℕ) → Rising b l → bandsAscend (padded 16 0 l) (length l) ≡ true
-bands-ascend b l r = every-is _ (length l - 1) λ i k.
-    rw (padded-at 0 0 16 i l (omega arith), padded-at 0 0 16 (i + 1) l (omega arith)) (lt-ltb (getD l i 0) (getD l (i + 1) 0) (r .up i (omega arith)))
+bands-ascend b l r = at-every _ (length l - 1) λ i k.
+    rw (getD-padded 16 0 0 l i (omega arith), getD-padded 16 0 0 l (i + 1) (omega arith)) (lt-ltb (getD l i 0) (getD l (i + 1) 0) (r .up i (omega arith)))
 
 -- ---- phases are 0
-zero-phase : phaseOk (quotient 0 1) ≡ true
+zero-passes : phaseOk (quotient 0 1) ≡ true
 unfolding round lt le eq
-zero-phase = refl
+zero-passes = refl
 
-phases-ok : (m : ℕ) → m ≤ 32 → phasesOk (replicate 32 (quotient 0 1)) m ≡ true
+pub phases-ok : (m : ℕ) → m ≤ 32 → phasesOk (replicate 32 (quotient 0 1)) m ≡ true
 unfolding phasesOk
-phases-ok m h = every-is _ m λ i k. ap phaseOk (getD-replicate 32 i (quotient 0 1) nan (omega arith)) ∙ zero-phase
+phases-ok m h = at-every _ m λ i k. ap phaseOk (getD-replicate 32 i (quotient 0 1) nan (omega arith)) ∙ zero-passes
 
 -- ---- the whole
 value-pitch : (e : PitchEntry) → valuesOk e ≡ true → pitchOk (pitch e) ≡ true

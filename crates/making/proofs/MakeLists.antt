@@ -7,6 +7,7 @@ use native.Mathlib.Omega.{arith}
 use native.Mathlib.Numerals.{add-one}
 use lib.ListN.{length, take, drop, getD, set, replicate, length-append, length-map, drop-of-length-le}
 use lib.Seq.{drop-cons, set-at, take-suc, length-take-le}
+use Rattle.voice.proofs.Loops.{drop-replicate}
 use Rattle.voice.specs.Lists.{upTo, padded}
 use Rattle.making.specs.inner.Live.{liveOf, addLive}
 use Rattle.making.specs.Making.{all}
@@ -56,15 +57,10 @@ module _ {A : Type 0} (f : ℕ → A) where
       let w = rest-same z (suc n) m (λ x k. h x (omega arith)) in
       rw (q, ← w, h n (omega arith), append-assoc) refl
 
-drop-same : {A : Type 0} (z : A) (n m : ℕ) → drop n (replicate m z) ≡ replicate (m - n) z
-drop-same z zero m = let q : m ≡ m - 0 = omega arith in ap (λ (k : ℕ). replicate k z) q
-drop-same z (suc n) zero = let q : 0 ≡ 0 - suc n = omega arith in ap (λ (k : ℕ). replicate k z) q
-drop-same z (suc n) (suc m) = let q : m - n ≡ suc m - suc n = omega arith in drop-same z n m ∙ ap (λ (k : ℕ). replicate k z) q
-
 pub upTo-full : {A : Type 0} (f : ℕ → A) (z : A) (n m : ℕ) (ls : List A) → n ≤ m → ((x : ℕ) → n ≤ x → f x ≡ z) → ls ≡ upTo f n ++ drop n (replicate m z) → ls ≡ upTo f m
 upTo-full f z n m ls l h e =
     let q : n + (m - n) ≡ m = omega arith in
-    e ∙ ap (λ t. upTo f n ++ t) (drop-same z n m) ∙ rest-same f z n (m - n) h ∙ ap (upTo f) q
+    e ∙ ap (λ t. upTo f n ++ t) (drop-replicate z n m) ∙ rest-same f z n (m - n) h ∙ ap (upTo f) q
 
 -- a test of all elements, from index i on
 module _ {A : Type 0} (f : A → Bool) (d : A) (l : List A) (i : ℕ) where

@@ -28,9 +28,9 @@ pub record Accepted (k : Kind) (es : List PitchEntry) (rate : Float) (centres : 
   pub as-many : length centres ≡ bandCount k es
   pub centres-finite : all finite centres ≡ true
 
-asked : (b : Bool) (n : ℕ) (r : Refusal) → askMaking b (suc n) r .number ≡ 0 → (b ≡ true) × (r .number ≡ 0)
-asked true n r h = (refl, h)
-asked false n r h = absurd (omega arith)
+askMaking-yes : (b : Bool) (n : ℕ) (r : Refusal) → askMaking b (suc n) r .number ≡ 0 → (b ≡ true) × (r .number ≡ 0)
+askMaking-yes true n r h = (refl, h)
+askMaking-yes false n r h = absurd (omega arith)
 
 asked-values : (i : ℕ) (es : List PitchEntry) (r : Refusal) → askValues i es r .number ≡ 0 → (all valuesOk es ≡ true) × (r .number ≡ 0)
 unfolding askValues all
@@ -51,11 +51,11 @@ module _ (k : Kind) (es : List PitchEntry) (rate : Float) (centres : List Float)
   pub table-accepted : tableQuestion k es rate centres .number ≡ 0 → Accepted k es rate centres
   unfolding tableQuestion limitsOk
   table-accepted h =
-      let a = asked (leb (length es) 16 && all sizesOk es) 7 _ h in
+      let a = askMaking-yes (leb (length es) 16 && all sizesOk es) 7 _ h in
       let b = asked-values 0 es _ (a .1) in
-      let c = asked (channelFound k es) 9 _ (b .1) in
-      let d = asked (rateOk rate) 10 _ (c .1) in
-      let e = asked (eqb (length centres) (bandCount k es) && all finite centres) 11 _ (d .1) in
+      let c = askMaking-yes (channelFound k es) 9 _ (b .1) in
+      let d = askMaking-yes (rateOk rate) 10 _ (c .1) in
+      let e = askMaking-yes (eqb (length centres) (bandCount k es) && all finite centres) 11 _ (d .1) in
       let l = both-true (leb (length es) 16) (all sizesOk es) (a .0) in
       let m = both-true (eqb (length centres) (bandCount k es)) (all finite centres) (e .0) in
       record {

@@ -35,43 +35,43 @@ module _ (s : List ℕ) (views : List EntryView) (i n : ℕ) (l : n ≤ length v
   abbrev here : PitchEntry
   here = entryAt s (getD views i noView)
 
-  turn : {A : Type 0} (f : List PitchEntry → A) (r : A) → f (rest s views i n) ≡ r → f (here ∷ rest s views (i + 1) n) ≡ r
-  turn f r e = ap f (sym (rest-go s views i n noView l h)) ∙ e
+  one-turn : {A : Type 0} (f : List PitchEntry → A) (r : A) → f (rest s views i n) ≡ r → f (here ∷ rest s views (i + 1) n) ≡ r
+  one-turn f r e = ap f (sym (rest-go s views i n noView l h)) ∙ e
 
   module _ (f : PitchEntry → Bool) (r : Bool) where
     pub all-go : all f (rest s views i n) ≡ r → f here ≡ true → all f (rest s views (i + 1) n) ≡ r
     unfolding all
-    all-go e t = rw t at (turn (all f) r e)
+    all-go e t = rw t at (one-turn (all f) r e)
 
     pub all-no : all f (rest s views i n) ≡ r → f here ≡ false → false ≡ r
     unfolding all
-    all-no e t = rw t at (turn (all f) r e)
+    all-no e t = rw t at (one-turn (all f) r e)
 
     pub any-go : any f (rest s views i n) ≡ r → f here ≡ false → any f (rest s views (i + 1) n) ≡ r
     unfolding any
-    any-go e t = rw t at (turn (any f) r e)
+    any-go e t = rw t at (one-turn (any f) r e)
 
     pub any-yes : any f (rest s views i n) ≡ r → f here ≡ true → true ≡ r
     unfolding any
-    any-yes e t = rw t at (turn (any f) r e)
+    any-yes e t = rw t at (one-turn (any f) r e)
 
   -- of all that pass, this one does and the rest do
   pub all-both : (f : PitchEntry → Bool) → all f (rest s views i n) ≡ true → (f here ≡ true) × (all f (rest s views (i + 1) n) ≡ true)
   unfolding all
-  all-both f e = both-true (f here) (all f (rest s views (i + 1) n)) (turn (all f) true e)
+  all-both f e = both-true (f here) (all f (rest s views (i + 1) n)) (one-turn (all f) true e)
 
   pub most-go : (count : PitchEntry → ℕ) (best r : ℕ) → max best (most count (rest s views i n)) ≡ r → max (max best (count here)) (most count (rest s views (i + 1) n)) ≡ r
   unfolding most
-  most-go count best r e = let t = turn (λ es. max best (most count es)) r e in omega arith
+  most-go count best r e = let t = one-turn (λ es. max best (most count es)) r e in omega arith
 
   module _ (rest-asked r : Refusal) where
     pub values-go : askValues i (rest s views i n) rest-asked ≡ r → valuesOk here ≡ true → askValues (i + 1) (rest s views (i + 1) n) rest-asked ≡ r
     unfolding askValues
-    values-go e t = rw t at (turn (λ es. askValues i es rest-asked) r e)
+    values-go e t = rw t at (one-turn (λ es. askValues i es rest-asked) r e)
 
     pub values-no : askValues i (rest s views i n) rest-asked ≡ r → valuesOk here ≡ false → refusal 9 i 0 ≡ r
     unfolding askValues
-    values-no e t = rw t at (turn (λ es. askValues i es rest-asked) r e)
+    values-no e t = rw t at (one-turn (λ es. askValues i es rest-asked) r e)
 
 -- and its end, where nothing is left
 module _ (s : List ℕ) (views : List EntryView) (i n : ℕ) (h : n ≤ i) where
@@ -95,7 +95,7 @@ module _ (s : List ℕ) (views : List EntryView) (i n : ℕ) (h : n ≤ i) where
   values-end rest-asked r e = done (λ es. askValues i es rest-asked) r e
 
 -- the desk's band count is such a count
-pub bands-most : (k : Kind) (es : List PitchEntry) → most (bandsOf k) es ≡ bandCount k es
+pub most-bands : (k : Kind) (es : List PitchEntry) → most (bandsOf k) es ≡ bandCount k es
 unfolding most bandCount
-bands-most k [] = refl
-bands-most k (e ∷ es) = ap (max (bandsOf k e)) (bands-most k es)
+most-bands k [] = refl
+most-bands k (e ∷ es) = ap (max (bandsOf k e)) (most-bands k es)

@@ -6,7 +6,7 @@ use native.Mathlib.Omega.{arith}
 use Rattle.table.specs.Desk.{bandsOf, bandCount}
 use Rattle.making.specs.Making.{most}
 use Rattle.making.specs.inner.Views.{viewed}
-use Rattle.making.proofs.ViewLaws.{rest, most-go, most-end, bands-most}
+use Rattle.making.proofs.ViewLaws.{rest, most-go, most-end, most-bands}
 use borrow.Author.Needs.{needs}
 use Rattle.making.proofs.counts.band_count.Statement.{statement}
 use Rattle.making.proofs.counts.band_count.Tie as tie
@@ -20,7 +20,7 @@ abbrev μ-loop : tie.MeasureT-loop
 -- src/counts.rt:23:5
 loop-holds : tie.Need-loop-holds Inv-loop μ-loop
 loop-holds c =
-    (omega arith, λ s. omega (arith, bands-most (c .args .kind) (viewed s (c .args .t1) (c .args .count))))
+    (omega arith, λ s. omega (arith, most-bands (c .args .kind) (viewed s (c .args .t1) (c .args .count))))
 
 -- src/counts.rt:23:5
 loop-again : tie.Need-loop-again Inv-loop μ-loop
