@@ -37,8 +37,8 @@ use Rattle.voice.proofs.voice.State.Laws as S′
 use Rattle.filters.proofs.rng.Rng as G
 
 -- a reference to a list of the voice
-abbrev pub listAt : ℕ → ℕ → GName → List Float → RefT (List Float)
-listAt b o γ xs = record { ptr = (b, o); name = γ; now = xs }
+abbrev pub listRef : ℕ → ℕ → GName → List Float → RefT (List Float)
+listRef b o γ xs = record { ptr = (b, o); name = γ; now = xs }
 
 -- the names that the five references go by
 pub record Names : Type 0 where
@@ -139,19 +139,19 @@ module _ {M : Type 1} (𝓤 : URA M) (H : Heap 𝓤) (A : Atoms 𝓤) (W : Given
 
     module _ (ℓ : Lifetime) (κ κ₁ κ₂ : Lft) where
       abbrev pub ToLists : Names → Fml
-      ToLists γ = ShrRef ℓ κ (Array f32 160) .own (listAt b (o + 72) (γ .lists) (v .lists)) (vptr b (o + 72) ∷ [])
+      ToLists γ = ShrRef ℓ κ (Array f32 160) .own (listRef b (o + 72) (γ .lists) (v .lists)) (vptr b (o + 72) ∷ [])
 
       abbrev pub ToPartials : Names → Fml
-      ToPartials γ = ShrRef ℓ κ (Array f32 2048) .own (listAt b (o + 712) (γ .partials) (v .partials)) (vptr b (o + 712) ∷ [])
+      ToPartials γ = ShrRef ℓ κ (Array f32 2048) .own (listRef b (o + 712) (γ .partials) (v .partials)) (vptr b (o + 712) ∷ [])
 
       abbrev pub ToNoise : Names → Fml
-      ToNoise γ = ShrRef ℓ κ (Array f32 1024) .own (listAt b (o + 8904) (γ .noise) (v .noise)) (vptr b (o + 8904) ∷ [])
+      ToNoise γ = ShrRef ℓ κ (Array f32 1024) .own (listRef b (o + 8904) (γ .noise) (v .noise)) (vptr b (o + 8904) ∷ [])
 
       abbrev pub ToPhases : Names → Fml
-      ToPhases γ = MutRef ℓ κ₁ (Array f32 32) .own (listAt b (o + 13000 + 0) (γ .phases) (v .state .phases)) (vptr b (o + 13000 + 0) ∷ [])
+      ToPhases γ = MutRef ℓ κ₁ (Array f32 32) .own (listRef b (o + 13000 + 0) (γ .phases) (v .state .phases)) (vptr b (o + 13000 + 0) ∷ [])
 
       abbrev pub ToMemories : Names → Fml
-      ToMemories γ = MutRef ℓ κ₂ (Array f32 32) .own (listAt b (o + 13000 + 128) (γ .memories) (v .state .memories)) (vptr b (o + 13000 + 128) ∷ [])
+      ToMemories γ = MutRef ℓ κ₂ (Array f32 32) .own (listRef b (o + 13000 + 128) (γ .memories) (v .state .memories)) (vptr b (o + 13000 + 128) ∷ [])
 
       -- what the lender keeps
       abbrev HeldPhases : Names → Fml
@@ -160,28 +160,28 @@ module _ {M : Type 1} (𝓤 : URA M) (H : Heap 𝓤) (A : Atoms 𝓤) (W : Given
       abbrev HeldMemories : Names → Fml
       HeldMemories γ = Body (mem (Array f32 32)) b (o + 13000 + 128) (γ .memories)
 
-      abbrev pub Kept : Names → SProp 𝓤
-      Kept γ = sep 𝓤 (sem 𝓤 H A (flent κ Lists)) (sep 𝓤 (sem 𝓤 H A (flent κ Partials)) (sep 𝓤 (sem 𝓤 H A (flent κ Noise)) (sep 𝓤 (sem 𝓤 H A (flent κ₁ (HeldPhases γ))) (sep 𝓤 (sem 𝓤 H A (flent κ₂ (HeldMemories γ))) (sep 𝓤 (sem 𝓤 H A Numbers) (sep 𝓤 (sem 𝓤 H A NoiseNumber) (sep 𝓤 VoiceBack StateBack)))))))
+      abbrev pub LenderKeeps : Names → SProp 𝓤
+      LenderKeeps γ = sep 𝓤 (sem 𝓤 H A (flent κ Lists)) (sep 𝓤 (sem 𝓤 H A (flent κ Partials)) (sep 𝓤 (sem 𝓤 H A (flent κ Noise)) (sep 𝓤 (sem 𝓤 H A (flent κ₁ (HeldPhases γ))) (sep 𝓤 (sem 𝓤 H A (flent κ₂ (HeldMemories γ))) (sep 𝓤 (sem 𝓤 H A Numbers) (sep 𝓤 (sem 𝓤 H A NoiseNumber) (sep 𝓤 VoiceBack StateBack)))))))
 
       abbrev pub Lent : Names → SProp 𝓤
-      Lent γ = sep 𝓤 (sem 𝓤 H A (ToLists γ)) (sep 𝓤 (sem 𝓤 H A (ToPartials γ)) (sep 𝓤 (sem 𝓤 H A (ToNoise γ)) (sep 𝓤 (sem 𝓤 H A (ToPhases γ)) (sep 𝓤 (sem 𝓤 H A (ToMemories γ)) (Kept γ)))))
+      Lent γ = sep 𝓤 (sem 𝓤 H A (ToLists γ)) (sep 𝓤 (sem 𝓤 H A (ToPartials γ)) (sep 𝓤 (sem 𝓤 H A (ToNoise γ)) (sep 𝓤 (sem 𝓤 H A (ToPhases γ)) (sep 𝓤 (sem 𝓤 H A (ToMemories γ)) (LenderKeeps γ)))))
 
       pub lends : ent 𝓤 (sem 𝓤 H A (partAt T.the-row fullShare v b o)) (H .⇛ (ex 𝓤 (λ (γ : Names). Lent γ)))
       lends =
           qed W (‵ (partAt T.the-row fullShare v b o) ∷ []) ∵ updating ! $
           use1 W (‵ Lists ⊛ ‵ Partials ⊛ ‵ Noise ⊛ ‵ (Phases (v .state .phases)) ⊛ ‵ (Memories (v .state .memories)) ⊛ ‵ Numbers ⊛ ‵ NoiseNumber ⊛ raw VoiceBack ⊛ raw StateBack) apart $
-          split ! $ use1 W (later (some (λ (γ : GName). ‵ (ShrRef ℓ κ (Array f32 160) .own (listAt b (o + 72) γ (v .lists)) (vptr b (o + 72) ∷ [])) ⊛ ‵ (flent κ Lists)))) (lends-shr 𝓤 H A W (Array f32 160) ℓ κ fullShare (v .lists) b (o + 72)) $ await ! tt $ pick ! (λ γ₁. split ! $ move ! (2 ∷ []) $
-          split ! $ use1 W (later (some (λ (γ : GName). ‵ (ShrRef ℓ κ (Array f32 2048) .own (listAt b (o + 712) γ (v .partials)) (vptr b (o + 712) ∷ [])) ⊛ ‵ (flent κ Partials)))) (lends-shr 𝓤 H A W (Array f32 2048) ℓ κ fullShare (v .partials) b (o + 712)) $ await ! tt $ pick ! (λ γ₂. split ! $ move ! (2 ∷ []) $
-          split ! $ use1 W (later (some (λ (γ : GName). ‵ (ShrRef ℓ κ (Array f32 1024) .own (listAt b (o + 8904) γ (v .noise)) (vptr b (o + 8904) ∷ [])) ⊛ ‵ (flent κ Noise)))) (lends-shr 𝓤 H A W (Array f32 1024) ℓ κ fullShare (v .noise) b (o + 8904)) $ await ! tt $ pick ! (λ γ₃. split ! $ move ! (2 ∷ []) $
-          split ! $ use1 W (later (some (λ (γ : GName). ‵ (MutRef ℓ κ₁ (Array f32 32) .own (listAt b (o + 13000 + 0) γ (v .state .phases)) (vptr b (o + 13000 + 0) ∷ [])) ⊛ ‵ (flent κ₁ (Body (mem (Array f32 32)) b (o + 13000 + 0) γ))))) (lends-ref 𝓤 H A W (Array f32 32) ℓ κ₁ (v .state .phases) b (o + 13000 + 0)) $ await ! tt $ pick ! (λ γ₄. split ! $ move ! (2 ∷ []) $
-          split ! $ use1 W (later (some (λ (γ : GName). ‵ (MutRef ℓ κ₂ (Array f32 32) .own (listAt b (o + 13000 + 128) γ (v .state .memories)) (vptr b (o + 13000 + 128) ∷ [])) ⊛ ‵ (flent κ₂ (Body (mem (Array f32 32)) b (o + 13000 + 128) γ))))) (lends-ref 𝓤 H A W (Array f32 32) ℓ κ₂ (v .state .memories) b (o + 13000 + 128)) $ await ! tt $ pick ! (λ γ₅. split ! $ move ! (2 ∷ []) $
+          split ! $ use1 W (later (some (λ (γ : GName). ‵ (ShrRef ℓ κ (Array f32 160) .own (listRef b (o + 72) γ (v .lists)) (vptr b (o + 72) ∷ [])) ⊛ ‵ (flent κ Lists)))) (lends-shr 𝓤 H A W (Array f32 160) ℓ κ fullShare (v .lists) b (o + 72)) $ await ! tt $ pick ! (λ γ₁. split ! $ move ! (2 ∷ []) $
+          split ! $ use1 W (later (some (λ (γ : GName). ‵ (ShrRef ℓ κ (Array f32 2048) .own (listRef b (o + 712) γ (v .partials)) (vptr b (o + 712) ∷ [])) ⊛ ‵ (flent κ Partials)))) (lends-shr 𝓤 H A W (Array f32 2048) ℓ κ fullShare (v .partials) b (o + 712)) $ await ! tt $ pick ! (λ γ₂. split ! $ move ! (2 ∷ []) $
+          split ! $ use1 W (later (some (λ (γ : GName). ‵ (ShrRef ℓ κ (Array f32 1024) .own (listRef b (o + 8904) γ (v .noise)) (vptr b (o + 8904) ∷ [])) ⊛ ‵ (flent κ Noise)))) (lends-shr 𝓤 H A W (Array f32 1024) ℓ κ fullShare (v .noise) b (o + 8904)) $ await ! tt $ pick ! (λ γ₃. split ! $ move ! (2 ∷ []) $
+          split ! $ use1 W (later (some (λ (γ : GName). ‵ (MutRef ℓ κ₁ (Array f32 32) .own (listRef b (o + 13000 + 0) γ (v .state .phases)) (vptr b (o + 13000 + 0) ∷ [])) ⊛ ‵ (flent κ₁ (Body (mem (Array f32 32)) b (o + 13000 + 0) γ))))) (lends-ref 𝓤 H A W (Array f32 32) ℓ κ₁ (v .state .phases) b (o + 13000 + 0)) $ await ! tt $ pick ! (λ γ₄. split ! $ move ! (2 ∷ []) $
+          split ! $ use1 W (later (some (λ (γ : GName). ‵ (MutRef ℓ κ₂ (Array f32 32) .own (listRef b (o + 13000 + 128) γ (v .state .memories)) (vptr b (o + 13000 + 128) ∷ [])) ⊛ ‵ (flent κ₂ (Body (mem (Array f32 32)) b (o + 13000 + 128) γ))))) (lends-ref 𝓤 H A W (Array f32 32) ℓ κ₂ (v .state .memories) b (o + 13000 + 128)) $ await ! tt $ pick ! (λ γ₅. split ! $ move ! (2 ∷ []) $
           split ! $ move ! (1 ∷ []) $ split ! $ move ! (1 ∷ []) $ split ! $
           -- [the ways back; the noise number; numbers; the five, each with the lender's part, memories first]
           at-once ! $ show ! (λ (γ : Names). Lent γ) (record { lists = γ₁; partials = γ₂; noise = γ₃; phases = γ₄; memories = γ₅ }) $
           move ! (12 ∷ 10 ∷ 8 ∷ 6 ∷ 4 ∷ 13 ∷ 11 ∷ 9 ∷ 7 ∷ 5 ∷ 3 ∷ 2 ∷ 0 ∷ 1 ∷ []) $ done !)))))
 
       -- the lifetimes are over: the voice again, at the last phases and memories
-      pub back : (γ : Names) (ps ms : List Float) → ent 𝓤 (sep 𝓤 (sem 𝓤 H A (fdead κ)) (sep 𝓤 (sem 𝓤 H A (fdead κ₁)) (sep 𝓤 (sem 𝓤 H A (fdead κ₂)) (sep 𝓤 (sem 𝓤 H A (fres (γ .phases) (Array f32 32 .coded .code ps))) (sep 𝓤 (sem 𝓤 H A (fres (γ .memories) (Array f32 32 .coded .code ms))) (Kept γ)))))) (H .⇛ (sem 𝓤 H A (partAt T.the-row fullShare (Moved ps ms) b o)))
+      pub back : (γ : Names) (ps ms : List Float) → ent 𝓤 (sep 𝓤 (sem 𝓤 H A (fdead κ)) (sep 𝓤 (sem 𝓤 H A (fdead κ₁)) (sep 𝓤 (sem 𝓤 H A (fdead κ₂)) (sep 𝓤 (sem 𝓤 H A (fres (γ .phases) (Array f32 32 .coded .code ps))) (sep 𝓤 (sem 𝓤 H A (fres (γ .memories) (Array f32 32 .coded .code ms))) (LenderKeeps γ)))))) (H .⇛ (sem 𝓤 H A (partAt T.the-row fullShare (Moved ps ms) b o)))
       back γ ps ms =
           qed W (‵ (fdead κ) ∷ ‵ (fdead κ₁) ∷ ‵ (fdead κ₂) ∷ ‵ (fres (γ .phases) (Array f32 32 .coded .code ps)) ∷ ‵ (fres (γ .memories) (Array f32 32 .coded .code ms)) ∷ ‵ (flent κ Lists) ∷ ‵ (flent κ Partials) ∷ ‵ (flent κ Noise) ∷ ‵ (flent κ₁ (HeldPhases γ)) ∷ ‵ (flent κ₂ (HeldMemories γ)) ∷ ‵ Numbers ∷ ‵ NoiseNumber ∷ raw VoiceBack ∷ raw StateBack ∷ []) ∵ updating ! $
           move ! (2 ∷ 9 ∷ 4 ∷ []) $ use3 W (later (‵ (Memories ms))) (ref-back 𝓤 H A W (Array f32 32) κ₂ (γ .memories) ms b (o + 13000 + 128)) $ await ! tt $

@@ -64,7 +64,7 @@ use Rattle.player.proofs.playing.Moved as R
 use Rattle.player.proofs.playing.Moved.Laws as R′
 use Rattle.sounder.proofs.BoundaryLaws.{plays-in}
 use Rattle.sounder.proofs.Borrowed.{IsVoice, IsRng, written-out, is-set, is-state, is-rng, with-rng, with-state, typed-set, typed-rng, spelt-voice, opens-voice, closes-voice}
-use Rattle.sounder.proofs.Fields.{Names, listAt, ToLists, ToPartials, ToNoise, ToPhases, ToMemories, Kept, lends, back, whole-in, whole-out}
+use Rattle.sounder.proofs.Fields.{Names, listRef, ToLists, ToPartials, ToNoise, ToPhases, ToMemories, LenderKeeps, lends, back, whole-in, whole-out}
 use Rattle.player.proofs.play_parts as parts
 use Rattle.player.proofs.play_parts.Symbol as parts-def
 use Rattle.player.proofs.play_parts.Symbol.{name as #player·play-parts}
@@ -138,7 +138,7 @@ module _ {M : Type 1} (𝓤 : URA M) (H : Heap 𝓤) (A : Atoms 𝓤) (W : Given
 
   -- what the work's triple binds outside: the lists lent for ν, the phases for μ, the memories for π, each under a name
   abbrev passed : Names → Setting × (RefT (List Float) × (RefT (List Float) × (RefT (List Float) × (RefT (List Float) × (RefT (List Float) × (Rng × (Shape × (RefT (List Float) × (RefT (List Float) × (RefT (List Float) × (RefT (List Float) × (RefT (List Float) × (RefT (List Float) × (Unit {0}))))))))))))))
-  passed γ = (h .set, (listAt b (o + 72) (γ .lists) (h .lists), (listAt b (o + 712) (γ .partials) (h .partials), (listAt b (o + 8904) (γ .noise) (h .noise), (listAt b (o + 13000 + 0) (γ .phases) (h .state .phases), (listAt b (o + 13000 + 128) (γ .memories) (h .state .memories), (h .state .rng, (bl, (fs, (s0, (s1, (s2, (s3, (os, tt))))))))))))))
+  passed γ = (h .set, (listRef b (o + 72) (γ .lists) (h .lists), (listRef b (o + 712) (γ .partials) (h .partials), (listRef b (o + 8904) (γ .noise) (h .noise), (listRef b (o + 13000 + 0) (γ .phases) (h .state .phases), (listRef b (o + 13000 + 128) (γ .memories) (h .state .memories), (h .state .rng, (bl, (fs, (s0, (s1, (s2, (s3, (os, tt))))))))))))))
 
   abbrev lfts : ℕ → ℕ → ℕ → Lft × (Lft × (Lft × (Lft × (Lft × (Lft × (Lft × (Lft × (Lft × (Unit {0})))))))))
   lfts ν μ π = (ν ∷ [], (μ ∷ [], (π ∷ [], (κ₁, (κ₂, (κ₃, (κ₄, (κ₅, (κ₆, tt)))))))))
@@ -223,7 +223,7 @@ module _ {M : Type 1} (𝓤 : URA M) (H : Heap 𝓤) (A : Atoms 𝓤) (W : Given
         -- the lists, the phases and the memories are lent for lifetimes ν, μ and π of the call
         use1 W (‵ (cellAt fullShare (T.the-row .mir) (T′.lowered h ∷ []) b o)) (W .laws .at-raw fullShare T′.mir b o (T′.lowered h)) $ use2 W (‵ (partAt T.the-row fullShare h b o)) (whole-in 𝓤 H A W h b o (T′.lowered h ∷ [])) $
         lft-new ! tt (λ ν. lft-new ! tt (λ μ. lft-new ! tt (λ π. move ! (3 ∷ []) $
-        use1 W (later (some (λ (γ : Names). ‵ (ToLists 𝓤 H A W h b o (named 0) (ν ∷ []) (μ ∷ []) (π ∷ []) γ) ⊛ ‵ (ToPartials 𝓤 H A W h b o (named 0) (ν ∷ []) (μ ∷ []) (π ∷ []) γ) ⊛ ‵ (ToNoise 𝓤 H A W h b o (named 0) (ν ∷ []) (μ ∷ []) (π ∷ []) γ) ⊛ ‵ (ToPhases 𝓤 H A W h b o (named 1) (ν ∷ []) (μ ∷ []) (π ∷ []) γ) ⊛ ‵ (ToMemories 𝓤 H A W h b o (named 2) (ν ∷ []) (μ ∷ []) (π ∷ []) γ) ⊛ raw (Kept 𝓤 H A W h b o (named 0) (ν ∷ []) (μ ∷ []) (π ∷ []) γ))))
+        use1 W (later (some (λ (γ : Names). ‵ (ToLists 𝓤 H A W h b o (named 0) (ν ∷ []) (μ ∷ []) (π ∷ []) γ) ⊛ ‵ (ToPartials 𝓤 H A W h b o (named 0) (ν ∷ []) (μ ∷ []) (π ∷ []) γ) ⊛ ‵ (ToNoise 𝓤 H A W h b o (named 0) (ν ∷ []) (μ ∷ []) (π ∷ []) γ) ⊛ ‵ (ToPhases 𝓤 H A W h b o (named 1) (ν ∷ []) (μ ∷ []) (π ∷ []) γ) ⊛ ‵ (ToMemories 𝓤 H A W h b o (named 2) (ν ∷ []) (μ ∷ []) (π ∷ []) γ) ⊛ raw (LenderKeeps 𝓤 H A W h b o (named 0) (ν ∷ []) (μ ∷ []) (π ∷ []) γ))))
         (lends 𝓤 H A W h b o (named 0) (ν ∷ []) (μ ∷ []) (π ∷ [])) $ await ! tt $ pick ! (λ γ. split ! $ move ! (1 ∷ []) $ split ! $ move ! (1 ∷ []) $ split ! $ move ! (1 ∷ []) $ split ! $ move ! (1 ∷ []) $ split ! $
         -- what the work is passed: [memories; what the lender keeps; phases; noise; partials; lists; tokens of π, μ, ν; the open borrow; obs; auth; the other tokens; the other parameters; _19; …]
         move ! (13 ∷ []) $ fsplit ! $ drop ! $
