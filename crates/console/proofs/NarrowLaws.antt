@@ -1,28 +1,24 @@
 -- Laws on the patterns of `narrow`. Assumes nothing.
 use Prim.Native.Nat.{ℕ, _%_, _^_, _<_, min}
-use mathlib.Core.Path.{_≡_, refl, sym, subst}
-use mathlib.Core.Bool.{Bool, true, false, cond, not}
+use mathlib.Core.Path.{_≡_, sym, subst}
+use mathlib.Core.Bool.{Bool, true, false, not}
 use native.Mathlib.Omega.{arith}
 use lib.Dec.{T, ltb, leb}
 use lib.IntN.{pos}
 use lib.Ieee.{Float, nan, inf, fin, binary64, lt, neg, div, ofInt, isNan}
 use borrow.Author.Tests.{leb-false}
+use Rattle.float.proofs.Finite.{by-cond}
 use Rattle.console.specs.Narrow.{narrowPattern, narrowed, quotientOf, signed}
-
--- what holds of both holds of the one that a test picks
-pick : (P : ℕ → Type 0) (t : Bool) (a b : ℕ) → (t ≡ true → P a) → (t ≡ false → P b) → P (cond t a b)
-pick P true a b x y = x refl
-pick P false a b x y = y refl
 
 -- a pattern of `narrow` is below the infinity's
 pub narrow-lt : (b : ℕ) → narrowPattern b < 2139095040
 unfolding narrowPattern
 narrow-lt b =
-    pick (λ (n : ℕ). n < 2139095040) (ltb b 0x3810000000000000) _ _ (λ h. omega arith) (λ h₁.
-    pick (λ (n : ℕ). n < 2139095040) (leb 0x47e0000000000000 b) _ _ (λ h. omega arith) (λ h₂.
+    by-cond (λ (n : ℕ). n < 2139095040) (ltb b 0x3810000000000000) _ _ (λ h. omega arith) (λ h₁.
+    by-cond (λ (n : ℕ). n < 2139095040) (leb 0x47e0000000000000 b) _ _ (λ h. omega arith) (λ h₂.
     let l : b < 0x47e0000000000000 = leb-false _ _ h₂ in
-    pick (λ (n : ℕ). n < 2139095040) (ltb (b % 0x20000000) 0x10000000) _ _ (λ h. omega arith) (λ h₃.
-    pick (λ (n : ℕ). n < 2139095040) (ltb 0x10000000 (b % 0x20000000)) _ _ (λ h. omega arith) (λ h₄. omega arith))))
+    by-cond (λ (n : ℕ). n < 2139095040) (ltb (b % 0x20000000) 0x10000000) _ _ (λ h. omega arith) (λ h₃.
+    by-cond (λ (n : ℕ). n < 2139095040) (ltb 0x10000000 (b % 0x20000000)) _ _ (λ h. omega arith) (λ h₄. omega arith))))
 
 -- what is above a number is no NaN
 pub above-no-nan : (z x : Float) → lt z x ≡ true → T (not (isNan x))
