@@ -107,33 +107,33 @@ plus-zero (fin true zero e) h k = absurd k
 plus-zero (fin t (suc n) d) h k = zero-first false t n d h
 
 -- not 0
-abbrev some : Float → Bool
-some nan = true
-some (inf s) = true
-some (fin s zero e) = false
-some (fin s (suc m) e) = true
+abbrev notZero : Float → Bool
+notZero nan = true
+notZero (inf s) = true
+notZero (fin s zero e) = false
+notZero (fin s (suc m) e) = true
 
-size-some : (x : Float) → 0 < num x → T (some x)
+size-some : (x : Float) → 0 < num x → T (notZero x)
 size-some nan h = tt
 size-some (inf s) h = tt
 size-some (fin s zero e) h = absurd (lt-irrefl 0 (lt-of-lt-of-le h (le-of-eq (zero-mul (up e)))))
 size-some (fin s (suc m) e) h = tt
 
-above-some : (x : Float) → T (above x) → T (some x)
+above-some : (x : Float) → T (above x) → T (notZero x)
 above-some nan h = tt
 above-some (inf s) h = tt
 above-some (fin true m e) h = absurd h
 above-some (fin false zero e) h = absurd h
 above-some (fin false (suc m) e) h = tt
 
-some-no : (x : Float) → T (some x) → T (not (isMinusZero x))
+some-no : (x : Float) → T (notZero x) → T (not (isMinusZero x))
 some-no nan h = tt
 some-no (inf s) h = tt
 some-no (fin s zero e) h = absurd h
 some-no (fin true (suc m) e) h = tt
 some-no (fin false (suc m) e) h = tt
 
-some-neg : (x : Float) → T (some x) → T (some (neg x))
+some-neg : (x : Float) → T (notZero x) → T (notZero (neg x))
 unfolding neg
 some-neg nan h = tt
 some-neg (inf s) h = tt
@@ -141,7 +141,7 @@ some-neg (fin s zero e) h = absurd h
 some-neg (fin s (suc m) e) h = tt
 
 -- either sign
-round-no : (s : Bool) (a c : ℕ) → T (some (round binary32 false a c)) → T (not (isMinusZero (round binary32 s a c)))
+round-no : (s : Bool) (a c : ℕ) → T (notZero (round binary32 false a c)) → T (not (isMinusZero (round binary32 s a c)))
 round-no false a c h = some-no (round binary32 false a c) h
 round-no true a c h = rw (round-neg binary32 a c) (some-no (neg (round binary32 false a c)) (some-neg (round binary32 false a c) h))
 
@@ -162,7 +162,7 @@ module _ (m : ℕ) (e : ℤ) (n : ℕ) (d : ℤ) (M : T (fits binary32 (fin fals
   c = down e * down d
 
   -- of one sign
-  like : T (some (round binary32 false (a + b) c))
+  like : T (notZero (round binary32 false (a + b) c))
   like =
       above-some (round binary32 false (a + b) c)
       (above-of-le Y (round binary32 false (a + b) c) (lt→ltb 0 (suc n) (zero-lt-suc n))
@@ -171,13 +171,13 @@ module _ (m : ℕ) (e : ℤ) (n : ℕ) (d : ℤ) (M : T (fits binary32 (fin fals
       (le-trans (le-of-eq (sym (mul-assoc (suc n * up d) (down e) (down d)))) (mul-le-mul-right (down d) (le-add-left b a))))))
 
   -- of two signs
-  more : b < a → T (some (round binary32 false (a - b) c))
-  more h = subst (λ (z : Float). T (some z)) (sub-is binary32 X Y tt tt (le-of-lt h)) (size-some (sub binary32 X Y) (sub-positive X Y M N tt tt h))
+  more : b < a → T (notZero (round binary32 false (a - b) c))
+  more h = subst (λ (z : Float). T (notZero z)) (sub-is binary32 X Y tt tt (le-of-lt h)) (size-some (sub binary32 X Y) (sub-positive X Y M N tt tt h))
 
-  less : a < b → T (some (round binary32 false (b - a) c))
+  less : a < b → T (notZero (round binary32 false (b - a) c))
   less h =
-      subst (λ (z : ℕ). T (some (round binary32 false (b - a) z))) (mul-comm (down d) (down e))
-      (subst (λ (z : Float). T (some z)) (sub-is binary32 Y X tt tt (le-of-lt h)) (size-some (sub binary32 Y X) (sub-positive Y X N M tt tt h)))
+      subst (λ (z : ℕ). T (notZero (round binary32 false (b - a) z))) (mul-comm (down d) (down e))
+      (subst (λ (z : Float). T (notZero z)) (sub-is binary32 Y X tt tt (le-of-lt h)) (size-some (sub binary32 Y X) (sub-positive Y X N M tt tt h)))
 
   level : b ≤ a → a ≤ b → T (not (isMinusZero (round binary32 false (a - b) c)))
   level h k =

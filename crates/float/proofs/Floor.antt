@@ -40,10 +40,10 @@ den-one (fin false zero (negsuc k)) t p h = absurd (not-under-zero (8388608 * 2 
     not-under-zero : (a : ℕ) → 0 < a → a ≤ 0 * 1 → ⊥
     not-under-zero a h k = omega arith
 den-one (fin false (suc m) (negsuc k)) t p h =
-    absurd (too-short (suc m) (2 ^ k) (pow-pos k) (fitting binary32 false m (negsuc k) t .short) (subst (λ (z : ℕ). 8388608 * z ≤ suc m * 1) (pow-succ' 2 k) h))
+    absurd (not-short (suc m) (2 ^ k) (pow-pos k) (fitting binary32 false m (negsuc k) t .short) (subst (λ (z : ℕ). 8388608 * z ≤ suc m * 1) (pow-succ' 2 k) h))
   where
-    too-short : (m p : ℕ) → 0 < p → m < 2 ^ 24 → 8388608 * (2 * p) ≤ m * 1 → ⊥
-    too-short m p P u l = omega arith
+    not-short : (m p : ℕ) → 0 < p → m < 2 ^ 24 → 8388608 * (2 * p) ≤ m * 1 → ⊥
+    not-short m p P u l = omega arith
 
 -- ---- x + 2 ^ 23 is 2 ^ 23 + w or one more, for the whole part w of x
 module _ (x : Float) (h : Within 1048577 1 x) where
