@@ -1,4 +1,3 @@
-pub mod Folds
 pub mod Memories
 pub mod Sides
 pub mod Rules

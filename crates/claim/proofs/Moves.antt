@@ -9,7 +9,7 @@ use lib.ListN.{length, take, getD, replicate, length-map}
 use lib.Dec.{eqb}
 use lib.Ieee.{Float}
 use borrow.Author.Tests.{ne-eqb}
-use Rattle.voice.proofs.Loops.{getD-padded}
+use Rattle.voice.proofs.Loops.{getD-padded, take-replicate}
 use Rattle.table.specs.declared.desk.Kind.{Kind}
 use Rattle.table.specs.Table.{PitchEntry}
 use Rattle.table.specs.Desk.{bandCount}
@@ -35,7 +35,6 @@ use Rattle.voice.specs.declared.voice.State.{State}
 use Rattle.voice.specs.declared.voice.Voice.{Voice}
 use Rattle.claim.specs.Machine.{Plain, plainFrom, Machine, Event, frequency, reset, seed, startFrom, advanced, tick, stretchOf, noiseNext, atFrequency, Supplied, supplied, move, machineFrom}
 use Rattle.claim.specs.Calls.{callOf, outLength, VoiceCall, playing, resetting, reseeding, after, run, fedBy, fed, running}
-use Rattle.claim.proofs.Folds.{take-replicate}
 use Rattle.claim.proofs.Memories.{memories-first}
 use Rattle.claim.proofs.Front.{stretch-front}
 use Rattle.claim.proofs.Bands.{live-bands, isIn-live, tick-is, ticking-made}

@@ -220,6 +220,11 @@ drop-replicate a zero m = let e : m - 0 ≡ m = omega arith in rw e
 drop-replicate a (suc n) zero = let e : 0 - suc n ≡ 0 = omega arith in rw e
 drop-replicate a (suc n) (suc m) = let e : suc m - suc n ≡ m - n = omega arith in rw e (drop-replicate a n m)
 
+pub take-replicate : {A : Type 0} (a : A) (n k : ℕ) → n ≤ k → take n (replicate k a) ≡ replicate n a
+take-replicate a zero k h = refl
+take-replicate a (suc n) zero h = absurd (omega arith)
+take-replicate a (suc n) (suc k) h = ap (λ t. a ∷ t) (take-replicate a n k (omega arith))
+
 -- below the length of a list that was made longer, its elements
 pub getD-padded : {A : Type 0} (n : ℕ) (x d : A) (l : List A) (i : ℕ) → i < length l → getD (padded n x l) i d ≡ getD l i d
 getD-padded n x d l i h = List·getD-append l (replicate (n - length l) x) d i h

@@ -44,10 +44,10 @@ ascii-octet b h = simp (le-leb b 0x7f (omega arith), le-leb 0x0 b (omega arith))
 
 -- and n of them are passed over
 pub octets-plain : (s : List ℕ) (n i b : ℕ) → i + n ≤ length s → b < 0x80 → NoneAbove s i n b → octets (drop i s) [] ≡ octets (drop (i + n) s) []
-octets-plain s zero i b h u f = ap (λ (k : ℕ). octets (drop k s) []) (none i)
+octets-plain s zero i b h u f = ap (λ (k : ℕ). octets (drop k s) []) (plus-nothing i)
   where
-    none : (i : ℕ) → i ≡ i + 0
-    none i = omega arith
+    plus-nothing : (i : ℕ) → i ≡ i + 0
+    plus-nothing i = omega arith
 octets-plain s (suc n) i b h u f =
     octets-plain s n i b (omega arith) u (λ (k : ℕ) (l : k < n). f k (omega arith))
     ∙ octets-go [] [] s (i + n) (omega arith) (ascii-octet (getD s (i + n) 0) (below (f n (omega arith)) u))

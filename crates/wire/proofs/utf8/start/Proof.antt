@@ -13,9 +13,9 @@ use Rattle.wire.proofs.utf8.start.Tie as tie
 skip-requires : tie.Need-skip-requires
 skip-requires c κs = search needs
 
-none : (t : Rest) (s : List ℕ) (k : ℕ) → t .left ≡ 0 → octets (drop k s) (ranges t) ≡ octets (drop k s) []
+none-left : (t : Rest) (s : List ℕ) (k : ℕ) → t .left ≡ 0 → octets (drop k s) (ranges t) ≡ octets (drop k s) []
 unfolding octetsLeft
-none t s k e = ap (λ (n : ℕ). octets (drop k s) (octetsLeft n (t .low) (t .high))) e
+none-left t s k e = ap (λ (n : ℕ). octets (drop k s) (octetsLeft n (t .low) (t .high))) e
 
 returns : tie.Need-returns
 returns c =
@@ -23,7 +23,7 @@ returns c =
     let a = i .before .before .before in
     let s = a .args .s .now in
     let e = c .skip .ensures in
-    (e .0, e .1, none (a .args .t) s (a .args .from) (i .if1 .taken) ∙ e .2 ∙ sym (none (a .args .t) s (c .skip .result) (i .if1 .taken)))
+    (e .0, e .1, none-left (a .args .t) s (a .args .from) (i .if1 .taken) ∙ e .2 ∙ sym (none-left (a .args .t) s (c .skip .result) (i .if1 .taken)))
 
 returns-2 : tie.Need-returns-2
 returns-2 c = search needs
