@@ -198,12 +198,32 @@ fn no_part(part: &[u8]) {
     if there {
         say::text(
             2,
-            b"a run that was interrupted may have left it, or one is under way: remove it, then play again\n",
+            b"if its run is under way, wait until that ends; if none is, an interrupted run left it: remove it, then play again\n",
         );
     }
 }
 
-// Plays into the part, which becomes the file once it is whole, and is removed where it is not.
+// Whether the part is still the file that is open as `fd`. It may have been removed while tone played, and another run may have made its
+// own: then none has the name, or one with another number of bytes. (A part that cannot be opened for another reason counts as tone's.)
+fn is_own(fd: i32, part: &[u8]) -> bool {
+    let named = os::open_read(part);
+    if named < 0 {
+        return os::errno() != libc::ENOENT;
+    }
+    let same = libc::lseek(named, 0, libc::SEEK_END) == libc::lseek(fd, 0, libc::SEEK_END);
+    libc::close(named);
+    same
+}
+
+// Says that the part is not tone's any more.
+fn say_lost(path: &[u8], part: &[u8]) {
+    say::name(2, part);
+    say::text(2, b": removed or replaced while tone played, so ");
+    say::name(2, path);
+    say::text(2, b" is not written\n");
+}
+
+// Plays into the part, which becomes the file once it is whole, and is removed where it is not. A part of another run is left alone.
 fn make_file(o: Options, voice: Voice, path: &[u8], part: &[u8]) {
     let fd = os::create(part);
     if fd < 0 {
@@ -213,7 +233,12 @@ fn make_file(o: Options, voice: Voice, path: &[u8], part: &[u8]) {
     let total = samples(o);
     let run = fill_file(o, fd, voice, total);
     let whole = is_whole(run, fd, part);
+    let own = is_own(fd, part);
     let closed = libc::close(fd);
+    if !own {
+        say_lost(path, part);
+        return;
+    }
     if whole {
         if closed < 0 {
             os::fail(part);
