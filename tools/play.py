@@ -267,9 +267,9 @@ def main():
         blocks = -(-total // 128)
         for d in range(1, blocks + 1):
             if (d - 1) * 10 // blocks < d * 10 // blocks:
-                print(f'played {min(d * 128, total)} of {total} samples')
+                print(f'played {min(d * 128, total)} of {counted(total, "sample")}')
         print(f'wrote {o.words}: ', end='')
-    print(f'{total} samples at {o.rate} a second, peak {peak:.6f}, CRC-32 of the file {zlib.crc32(wav(o.rate, out)):08x}')
+    print(f'{counted(total, "sample")} at {o.rate} a second, peak {peak:.6f}, CRC-32 of the file {zlib.crc32(wav(o.rate, out)):08x}')
     if o.words and peak > 1:
         print('the peak is above 1, where players cut it off: a lower --gain helps')
 

@@ -211,20 +211,25 @@ pub fn values(c: Centres) -> [f32; 16]
     places(v)
 }
 
+// Says the name of the file of centres.
+fn say_file(argument: usize) {
+    let mut path = io::buffer();
+    let n = os::arg(argument, &mut path);
+    say::name(2, &path[..n]);
+}
+
 // Says which line is no centre, and why.
-fn say_fault(c: Centres) {
-    say::text(2, b"line ");
+fn say_fault(argument: usize, c: Centres) {
+    say_file(argument);
+    say::text(2, b": line ");
     say::number(2, std::num::wrapping_add_usize(c.above, 1) as u64);
     if c.many {
         say::text(
             2,
-            b" of the centres: a seventeenth centre, and a voice has at most 16 bands\n",
+            b": a seventeenth centre, and a voice has at most 16 bands\n",
         );
     } else {
-        say::text(
-            2,
-            b" of the centres: not a decimal number of at most 15 digits\n",
-        );
+        say::text(2, b": not a decimal number of at most 15 digits\n");
     }
 }
 
@@ -243,12 +248,16 @@ pub fn from_argument(argument: usize) -> Centres
     }
     let k = r.bytes;
     if k == 4096 {
-        say::text(2, b"the file of centres is longer than 4095 bytes\n");
+        say_file(argument);
+        say::text(
+            2,
+            b": longer than 4095 bytes, and a file of centres is not\n",
+        );
         return faulty(0, false);
     }
     let c = read(&text[..k]);
     if c.failed {
-        say_fault(c);
+        say_fault(argument, c);
     }
     c
 }

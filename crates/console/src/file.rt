@@ -3,6 +3,7 @@ ghost use Prim.Native.Nat.{_≤_};
 ghost use lib.ListN.{length};
 ghost use Rattle.io.specs.Counts.{Counts};
 ghost use Rattle.console.specs.File.{HasRead};
+use crate::say;
 
 // How many bytes of the buffer were read, or that the file could not be opened or read.
 pub struct FileRead {
@@ -53,6 +54,12 @@ fn read_all(fd: i32, buf: &mut [u8]) -> FileRead
     }
 }
 
+// Says a file's name and why the call before failed: a write that succeeds leaves errno alone.
+fn fail(path: &[u8]) {
+    say::name(2, path);
+    os::fail(b"");
+}
+
 // Reads the file with a name. Where that fails, it has said so on standard error. The contract only speaks of how many bytes were read:
 // which bytes a file holds, no contract can say.
 pub fn read(path: &[u8], buf: &mut [u8]) -> FileRead
@@ -60,7 +67,7 @@ pub fn read(path: &[u8], buf: &mut [u8]) -> FileRead
 {
     let fd = os::open_read(path);
     if fd < 0 {
-        os::fail(path);
+        fail(path);
         return FileRead {
             failed: true,
             bytes: 0,
@@ -68,7 +75,7 @@ pub fn read(path: &[u8], buf: &mut [u8]) -> FileRead
     }
     let r = read_all(fd, buf);
     if r.failed {
-        os::fail(path);
+        fail(path);
     }
     libc::close(fd);
     r

@@ -101,15 +101,29 @@ pub fn refusal(fd: i32, a: Answer) {
     say::text(fd, b"\n");
 }
 
+// The words for question 12 where the centres are not as many as the voice needs.
+fn centres(fd: i32, needed: u64, got: u64) {
+    if needed == 0 {
+        say::text(
+            fd,
+            b"refusal 12: the voice has no noise bands, so it needs no centres, and got ",
+        );
+        say::number(fd, got);
+        say::text(fd, b" (leave --centres out)\n");
+        return;
+    }
+    say::text(fd, b"refusal 12: the voice needs ");
+    say::counted(fd, needed, b" centre", b" centres");
+    say::text(fd, b", one for each noise band, and got ");
+    say::number(fd, got);
+    say::text(fd, b" (--centres FILE gives them)\n");
+}
+
 // A making's refusal. Of 12 it says how many centres the voice needs and got; where these are as many, one is not finite.
 pub fn making_refusal(fd: i32, a: Answer, needed: u64, got: u64) {
     if a.number == 12 {
         if needed != got {
-            say::text(fd, b"refusal 12: the voice needs ");
-            say::counted(fd, needed, b" centre", b" centres");
-            say::text(fd, b", one for each noise band, and got ");
-            say::number(fd, got);
-            say::text(fd, b" (--centres FILE gives them)\n");
+            centres(fd, needed, got);
             return;
         }
     }

@@ -247,7 +247,7 @@ fn set(mut o: Options, option: u32, i: usize) -> Options {
             o,
             option,
             &text,
-            b"too many digits: these are the first 64, and a number has at most 15",
+            b"too long: these are its first 64 bytes, and a number has at most 15 digits",
         );
     }
     if option == 1 {

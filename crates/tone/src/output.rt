@@ -44,8 +44,7 @@ fn progress(done: u32, blocks: u32, played: u32, total: u32) {
         say::text(1, b"played ");
         say::number(1, played as u64);
         say::text(1, b" of ");
-        say::number(1, total as u64);
-        say::text(1, b" samples\n");
+        say::counted(1, total as u64, b" sample\n", b" samples\n");
     }
 }
 
@@ -116,11 +115,17 @@ fn fill_file(o: Options, fd: i32, voice: Voice, total: u32) -> Run {
     fill(o, fd, start, total)
 }
 
+// Says a file's name and why the call before failed: a write that succeeds leaves errno alone.
+fn fail(path: &[u8]) {
+    say::name(2, path);
+    os::fail(b"");
+}
+
 // Whether the file is there in full: every byte written, and on its device.
 fn is_whole(run: Run, fd: i32, path: &[u8]) -> bool {
     let s = run.sink;
     if s.short {
-        os::fail(path);
+        fail(path);
         return false;
     }
     if run.number != 0 {
@@ -135,7 +140,7 @@ fn is_whole(run: Run, fd: i32, path: &[u8]) -> bool {
         return false;
     }
     if libc::fsync(fd) < 0 {
-        os::fail(path);
+        fail(path);
         return false;
     }
     true
@@ -146,8 +151,7 @@ fn report(path: &[u8], o: Options, run: Run, total: u32) {
     say::text(1, b"wrote ");
     say::name(1, path);
     say::text(1, b": ");
-    say::number(1, total as u64);
-    say::text(1, b" samples at ");
+    say::counted(1, total as u64, b" sample at ", b" samples at ");
     say::number(1, o.rate as u64);
     say::text(1, b" a second, peak ");
     say::float(1, run.peak);
@@ -178,13 +182,13 @@ fn give_name(path: &[u8], part: &[u8]) -> bool {
         if os::errno() == libc::EEXIST {
             say_taken(path);
         } else {
-            os::fail(path);
+            fail(path);
         }
         return false;
     }
     libc::close(own);
     if os::rename(part, path) < 0 {
-        os::fail(path);
+        fail(path);
         os::unlink(path);
         return false;
     }
@@ -194,7 +198,7 @@ fn give_name(path: &[u8], part: &[u8]) -> bool {
 // Says that the part cannot be made, and where one is there, why that may be.
 fn no_part(part: &[u8]) {
     let there = os::errno() == libc::EEXIST;
-    os::fail(part);
+    fail(part);
     if there {
         say::text(
             2,
@@ -241,7 +245,7 @@ fn make_file(o: Options, voice: Voice, path: &[u8], part: &[u8]) {
     }
     if whole {
         if closed < 0 {
-            os::fail(part);
+            fail(part);
         } else {
             if give_name(path, part) {
                 report(path, o, run, total);

@@ -34,6 +34,10 @@ returns-2 : tie.Need-returns-2
 returns-2 c =
     rw (c .faulty .ensures) (omega arith)
 
+-- src/centres.rt:254:9
+say-file-requires : tie.Need-say-file-requires
+say-file-requires c κs = search needs
+
 -- src/centres.rt:246:22
 slice-aggregate-text : tie.Need-slice-aggregate-text
 slice-aggregate-text c = search needs
@@ -90,6 +94,7 @@ from-argument-spec =
     read-argument-requires
     faulty-requires
     returns-2
+    say-file-requires
     slice-aggregate-text
     text-requires
     faulty-requires-2
