@@ -84,7 +84,7 @@ fn playing(fd: i32, number: u32) {
     }
 }
 
-// The number, then what it means with its values.
+// The number, then what it means with its values. The line is the caller's to end.
 pub fn refusal(fd: i32, a: Answer) {
     say::text(fd, b"refusal ");
     say::number(fd, a.number as u64);
@@ -98,7 +98,6 @@ pub fn refusal(fd: i32, a: Answer) {
             playing(fd, a.number);
         }
     }
-    say::text(fd, b"\n");
 }
 
 // The words for question 12 where the centres are not as many as the voice needs.
@@ -109,17 +108,18 @@ fn centres(fd: i32, needed: u64, got: u64) {
             b"refusal 12: the voice has no noise bands, so it needs no centres, and got ",
         );
         say::number(fd, got);
-        say::text(fd, b" (leave --centres out)\n");
+        say::text(fd, b" (leave --centres out)");
         return;
     }
     say::text(fd, b"refusal 12: the voice needs ");
     say::counted(fd, needed, b" centre", b" centres");
     say::text(fd, b", one for each noise band, and got ");
     say::number(fd, got);
-    say::text(fd, b" (--centres FILE gives them)\n");
+    say::text(fd, b" (--centres FILE gives them)");
 }
 
-// A making's refusal. Of 12 it says how many centres the voice needs and got; where these are as many, one is not finite.
+// A making's refusal. Of 12 it says how many centres the voice needs and got; where these are as many, one is not finite. The line is
+// the caller's to end.
 pub fn making_refusal(fd: i32, a: Answer, needed: u64, got: u64) {
     if a.number == 12 {
         if needed != got {

@@ -19,7 +19,7 @@ fn say_made(m: usize, k: usize, j: usize) {
     say::text(1, b"can be made, with ");
     say::counted(1, m as u64, b" partial, ", b" partials, ");
     say::counted(1, k as u64, b" channel and ", b" channels and ");
-    say::counted(1, j as u64, b" noise band\n", b" noise bands\n");
+    say::counted(1, j as u64, b" noise band", b" noise bands");
 }
 
 // Tries a making, says what became of it, and answers whether the voice was made.
@@ -77,7 +77,8 @@ fn least(a: u32, b: u32) -> u32 {
 }
 
 // The first 16 of k channels, then the blend. A count of channels may be anything below 2^32, since an entry without partials and bands
-// has no coefficients whatever its count is; so the others are only counted. Answers whether a voice was made.
+// has no coefficients whatever its count is; so the others are only counted. Answers whether a voice was made. The last line
+// is the caller's to end.
 pub fn all(image: &[u8], k: u32, given: bool, centres: &[f32]) -> bool {
     span(image);
     let tried = least(k, 16);
@@ -85,6 +86,7 @@ pub fn all(image: &[u8], k: u32, given: bool, centres: &[f32]) -> bool {
     let mut i: u32 = 0;
     while i < tried {
         made = either(voice(image, 0, i, given, centres), made);
+        say::text(1, b"\n");
         i += 1;
     }
     if 16 < k {

@@ -25,46 +25,46 @@ use sounder::voices::sounder_make;
 use sounder::voices::sounder_reseed;
 use voice::Voice;
 
-fn usage(fd: i32) {
+fn usage() {
     say::text(
-        fd,
+        1,
         b"tone TABLE OUT.wav [option ..]: plays a coefficient table to a WAV file of 32-bit floats\n",
     );
     say::text(
-        fd,
+        1,
         b"  --single N      a voice of channel N of the table (N from 0; channel 0 where nothing is said)\n",
     );
     say::text(
-        fd,
+        1,
         b"  --blend         a voice that blends the table's channels\n",
     );
     say::text(
-        fd,
+        1,
         b"  --rate HZ       samples a second, 8000 to 192000 (48000)\n",
     );
-    say::text(fd, b"  --freq HZ       the pitch, at most 20000 (220)\n");
+    say::text(1, b"  --freq HZ       the pitch, at most 20000 (220)\n");
+    say::text(1, b"  --to HZ         glide to this pitch, at most 20000\n");
     say::text(
-        fd,
-        b"  --to HZ         glide to this pitch, at most 20000\n",
-    );
-    say::text(
-        fd,
+        1,
         b"  --gain G        the gain of a single voice (1), or of a blend's channels, up to four times (1, 0, 0, 0)\n",
     );
-    say::text(fd, b"  --seconds S     how long, up to 60 (1)\n");
-    say::text(fd, b"  --seed N        the noise's seed\n");
+    say::text(1, b"  --seconds S     how long, up to 60 (1)\n");
+    say::text(1, b"  --seed N        the noise's seed\n");
     say::text(
-        fd,
+        1,
         b"  --centres FILE  the noise bands' centres, a number a line\n",
     );
     say::text(
-        fd,
+        1,
         b"Numbers are decimal, with at most 15 digits. Numbered refusals are in README.md.\n",
     );
-    say::text(
-        fd,
+    let said = io::write_all(
+        1,
         b"It writes over nothing. Status (of tools/tone): 0 done, 1 refused or failed, 2 wrong use.\n",
     );
+    if !said {
+        os::fail(b"standard output");
+    }
 }
 
 // What was read, in words.
@@ -115,6 +115,7 @@ fn pitch_ok(x: f32, option: &[u8]) -> bool {
                 second: 0,
             },
         );
+        say::text(2, b"\n");
         return false;
     }
     true
@@ -144,6 +145,7 @@ fn play_image(o: Options, image: &[u8], centres: &[f32]) {
     let read = sounder_from_bytes(image);
     if read.number != 0 {
         words::refusal(2, read);
+        say::text(2, b"\n");
         return;
     }
     let made = sounder_make(
@@ -157,6 +159,7 @@ fn play_image(o: Options, image: &[u8], centres: &[f32]) {
     if answer.number != 0 {
         let desk = sounder_desk(o.blend, o.channel, image);
         words::making_refusal(2, answer, desk.bands as u64, centres.len() as u64);
+        say::text(2, b"\n");
         return;
     }
     if !pitches_ok(o) {
@@ -186,14 +189,28 @@ fn run(o: Options) {
     play_image(o, &image[..n], &values[..k]);
 }
 
+// Whether standard output is open. Where it is not, the file that is made would get its number, and what is said there would go into it.
+fn can_say() -> bool {
+    if libc::isatty(1) == 0 {
+        if os::errno() == libc::EBADF {
+            os::fail(b"standard output");
+            return false;
+        }
+    }
+    true
+}
+
 fn main() {
     let o = options::read();
     if !options::is_right(o) {
         say::wrong_use(b"tone");
         return;
     }
+    if !can_say() {
+        return;
+    }
     if o.help {
-        usage(1);
+        usage();
         return;
     }
     run(o);

@@ -111,6 +111,21 @@ fn say_option(option: u32) {
     }
 }
 
+// A word that starts with a dash is an option, or none; it names no file.
+fn is_option(word: &[u8]) -> bool {
+    if word.len() == 0 {
+        return false;
+    }
+    word[0] == 45
+}
+
+fn asks_for_help(word: &[u8]) -> bool {
+    if check::same(word, b"--help") {
+        return true;
+    }
+    check::same(word, b"-h")
+}
+
 // Says what is wrong with an option's value.
 fn wrong_value(mut o: Options, option: u32, text: &[u8], why: &[u8]) -> Options {
     say::text(2, b"tone: ");
@@ -234,11 +249,32 @@ fn set_decimal(mut o: Options, option: u32, text: &[u8]) -> Options {
     }
 }
 
+// The file of centres, which argument `i` names.
+fn set_centres(mut o: Options, i: usize) -> Options {
+    let mut word = io::buffer();
+    let n = os::arg(i, &mut word);
+    if os::errno() != 0 {
+        return wrong(o, b"--centres", b"its value is longer than 4096 bytes");
+    }
+    if n == 0 {
+        return wrong(o, b"--centres", b"its value is empty, and names no file");
+    }
+    if is_option(&word[..n]) {
+        return wrong_value(
+            o,
+            8,
+            &word[..n],
+            b"its value is missing (write ./ before a file's name that starts with -)",
+        );
+    }
+    o.centres = i;
+    o
+}
+
 // An option with the value that stands in argument `i`.
 fn set(mut o: Options, option: u32, i: usize) -> Options {
     if option == 8 {
-        o.centres = i;
-        return o;
+        return set_centres(o, i);
     }
     let mut text = [0u8; 64];
     let n = os::arg(i, &mut text);
@@ -278,15 +314,8 @@ fn place(mut o: Options, word: &[u8], i: usize) -> Options {
     wrong(o, word, b"one file too many")
 }
 
-fn is_option(word: &[u8]) -> bool {
-    if word.len() < 2 {
-        return false;
-    }
-    if word[0] == 45 { word[1] == 45 } else { false }
-}
-
 fn take_word(mut o: Options, word: &[u8], i: usize, count: usize) -> Options {
-    if check::same(word, b"--help") {
+    if asks_for_help(word) {
         o.help = true;
         return o;
     }
@@ -295,7 +324,11 @@ fn take_word(mut o: Options, word: &[u8], i: usize, count: usize) -> Options {
     }
     let option = which(word);
     if option == 0 {
-        return wrong(o, word, b"no such option");
+        return wrong(
+            o,
+            word,
+            b"no such option (write ./ before a file's name that starts with -)",
+        );
     }
     o = note(o, option, word);
     if option == 9 {

@@ -137,6 +137,7 @@ fn is_whole(run: Run, fd: i32, path: &[u8]) -> bool {
                 second: 0,
             },
         );
+        say::text(2, b"\n");
         return false;
     }
     if libc::fsync(fd) < 0 {
