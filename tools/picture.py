@@ -4,10 +4,15 @@
     tools/picture.py IN.wav OUT.png
 
 The spectrogram goes up to 12 kHz, or to half the rate where that is less, and says so. Colours are by the loudest spot; silence is pale.
+A sound of fewer samples than a spectrum needs has none, which is said in its place. The picture is written beside its
+place and put there once it is whole, so a picture that was there is replaced by a whole one or not at all.
 Status 0: drawn; 1: the file cannot be read or drawn, and why is said; 2: wrong use. Standard library only.
 """
 import cmath
+import errno
 import math
+import os
+import signal
 import struct
 import sys
 import zlib
@@ -111,12 +116,11 @@ class Canvas:
     def right(self, x, y, s):
         self.text(x - 6 * len(s), y, s)
 
-    def save(self, path):
+    def png(self):
         raw = b''.join(b'\0' + bytes(r) for r in self.rows)
         chunk = lambda mark, d: struct.pack('>I', len(d)) + mark + d + struct.pack('>I', zlib.crc32(mark + d))
         head = struct.pack('>IIBBBBB', W, H, 8, 2, 0, 0, 0)
-        with open(path, 'wb') as file:
-            file.write(b'\x89PNG\r\n\x1a\n' + chunk(b'IHDR', head) + chunk(b'IDAT', zlib.compress(raw, 9)) + chunk(b'IEND', b''))
+        return b'\x89PNG\r\n\x1a\n' + chunk(b'IHDR', head) + chunk(b'IDAT', zlib.compress(raw, 9)) + chunk(b'IEND', b'')
 
 
 def heat(v):
@@ -129,7 +133,13 @@ def heat(v):
 
 WIDE = W - LEFT - RIGHT
 SIZE = 1024  # samples of a spectrum
+TOO_SHORT = f'a sound of fewer than {SIZE} samples is too short for a spectrum'
 QUIET = 1e-9  # less than any sound: what silence counts as
+
+
+def number(x, places):
+    """A number with so many places where that shows it, else with three digits. It has at most ten letters with two places."""
+    return f'{x:.{places}f}' if x == 0 or 0.1 <= abs(x) < 1e6 else f'{x:.3g}'
 
 
 def wave(c, s, peak):
@@ -139,20 +149,19 @@ def wave(c, s, peak):
     for v in (-1, 0, 1):
         y = mid - round(v * half)
         c.line(LEFT, W - RIGHT, y, GRID)
-        c.right(LEFT - 8, y - 3, f'{v * full:.2f}')
+        c.right(LEFT - 8, y - 3, number(v * full, 2))
     for x in range(WIDE if s else 0):
         part = s[x * len(s) // WIDE:max((x + 1) * len(s) // WIDE, x * len(s) // WIDE + 1)]
         c.bar(LEFT + x, mid - round(max(part) / full * half), mid - round(min(part) / full * half), LINE)
 
 
 def spectra(s):
-    """The magnitudes of up to 240 spectra along the sound; zeros follow a sound that is shorter than one."""
+    """The magnitudes of up to 240 spectra along a sound of at least as many samples as one has."""
     window = [0.5 - 0.5 * math.cos(2 * math.pi * i / SIZE) for i in range(SIZE)]
     columns = min(240, max(1, (len(s) - SIZE) // (SIZE // 8)))
     for k in range(columns):
-        at = k * max(0, len(s) - SIZE) // max(1, columns - 1)
+        at = k * (len(s) - SIZE) // max(1, columns - 1)
         part = s[at:at + SIZE]
-        part = [*part, *([0.0] * (SIZE - len(part)))]
         yield [abs(v) / SIZE * 4 for v in fft([complex(a * w) for a, w in zip(part, window)])[:SIZE // 2]]
 
 
@@ -192,6 +201,10 @@ def mark_times(c, seconds):
         c.text(min(x - 3 * len(mark), W - 6 * len(mark) - 4), SPEC_BOTTOM + 11, mark)
 
 
+def colours(s, peak):
+    return 'none' if len(s) < SIZE else '80 dB from pale to yellow' if peak else 'silence'
+
+
 def draw(name, rate, samples):
     c = Canvas()
     s = [x if math.isfinite(x) else 0.0 for x in samples]
@@ -199,41 +212,95 @@ def draw(name, rate, samples):
     peak = max(map(abs, s), default=0.0)
     top = min(12000, max(1, rate // 2))
     seconds = len(s) / rate
-    facts = f'{len(s)} samples, {rate} Hz, peak {peak:.3f}' + (f', {odd} no finite number' if odd else '')
+    facts = f'{len(s)} sample{"s" * (len(s) != 1)}, {rate} Hz, peak {number(peak, 3)}' + (f', {odd} no finite number' if odd else '')
     room = (WIDE - 6 * len(facts)) // 12 - 1
     c.text(LEFT, 18, name if len(name) <= room else name[:room - 2] + '..', scale=2)
     c.right(W - RIGHT, 22, facts)
     wave(c, s, peak)
-    spectrogram(c, s, rate, top)
+    if len(s) < SIZE:
+        c.text(LEFT + WIDE // 2 - 6 * len(TOO_SHORT) // 2, (SPEC_TOP + SPEC_BOTTOM) // 2, TOO_SHORT)
+    else:
+        spectrogram(c, s, rate, top)
     mark_frequencies(c, top)
     mark_times(c, seconds)
     c.text(LEFT, WAVE_TOP - 14, 'sound')
-    c.text(LEFT, SPEC_TOP - 14, f'spectrum up to {top / 1000:g} kHz of {rate / 2000:g}: ' + ('80 dB from pale to yellow' if peak else 'silence'))
+    c.text(LEFT, SPEC_TOP - 14, f'spectrum up to {top / 1000:g} kHz of {rate / 2000:g}: ' + colours(s, peak))
     c.text(LEFT + WIDE // 2 - 40, SPEC_BOTTOM + 30, 'time in seconds')
     return c, seconds
 
 
-def main():
-    if sys.argv[1:] == ['--help']:
-        print(__doc__.strip())
+def shown(name):
+    """A name with control characters, backslashes and what is no UTF-8 as \\xNN."""
+    return ''.join(c if c.isprintable() and c != '\\' else ''.join(f'\\x{b:02x}' for b in os.fsencode(c)) for c in name)
+
+
+def save(picture, png):
+    """Writes the picture beside its place, then puts it there: in the place of a file that a link leads to, and of no device or folder."""
+    place = os.path.realpath(picture)
+    if os.path.exists(place) and not os.path.isfile(place):
+        raise NoPicture('there already, and no file')
+    part = f'{place}.{os.getpid()}.part'
+    with open(part, 'xb') as file:
+        try:
+            file.write(png)
+            file.flush()
+            os.fsync(file.fileno())
+            os.replace(part, place)
+        except BaseException:
+            os.unlink(part)
+            raise
+
+
+def say(words):
+    """Prints the words, and answers the status."""
+    try:
+        if sys.stdout is None:
+            raise OSError(errno.EBADF, os.strerror(errno.EBADF))
+        print(words, flush=True)
         return 0
-    if len(sys.argv) != 3 or any(a.startswith('--') for a in sys.argv[1:]):
-        print('picture: a WAV file and a picture to write are needed: tools/picture.py IN.wav OUT.png (--help tells more)', file=sys.stderr)
+    except OSError as e:
+        if sys.stdout is not None:
+            os.dup2(os.open(os.devnull, os.O_WRONLY), 1)  # so that Python does not try once more at its end
+        return fail('standard output', e)
+
+
+def fail(what, why):
+    print(f'{shown(what)}: {getattr(why, "strerror", None) or why}', file=sys.stderr)
+    return 1
+
+
+def wrong_use(words):
+    """What is wrong with the arguments, or nothing."""
+    for word in words:
+        if word == '':
+            return 'an argument: it is empty, and names no file'
+        if word.startswith('-'):
+            return f'{shown(word)}: no such option (write ./ before a file\'s name that starts with -)'
+    return '' if len(words) == 2 else 'a WAV file and a picture to write are needed'
+
+
+def main(words):
+    signal.signal(signal.SIGPIPE, signal.SIG_DFL)
+    if '--help' in words or '-h' in words:
+        return say(__doc__.strip())
+    wrong = wrong_use(words)
+    if wrong:
+        print(f'picture: {wrong}: tools/picture.py IN.wav OUT.png (--help tells more)', file=sys.stderr)
         return 2
-    path, picture = sys.argv[1:]
+    path, picture = words
     try:
         rate, samples = read(path)
+        if os.path.exists(picture) and os.path.samefile(path, picture):
+            raise NoPicture('the same file is to be drawn and written')
         c, seconds = draw(path.split('/')[-1], rate, samples)
-        c.save(picture)
-    except NoPicture as why:
-        print(f'{path}: {why}', file=sys.stderr)
-        return 1
-    except OSError as e:
-        print(f'{e.filename}: {e.strerror}', file=sys.stderr)
-        return 1
-    print(f'{picture}: {W} by {H}, {seconds:.{places_for(seconds)}f} s of sound')
-    return 0
+    except (NoPicture, OSError) as why:
+        return fail(path, why)
+    try:
+        save(picture, c.png())
+    except (NoPicture, OSError) as why:
+        return fail(picture, why)
+    return say(f'{shown(picture)}: {W} by {H}, {seconds:.{places_for(seconds)}f} s of sound')
 
 
 if __name__ == '__main__':
-    sys.exit(main())
+    sys.exit(main(sys.argv[1:]))
