@@ -13,7 +13,7 @@ from fractions import Fraction
 from pathlib import Path
 
 sys.path.insert(0, str(Path(__file__).resolve().parent))
-from play import Voice, counted, table
+from play import Voice, counted, status, table
 
 
 def decimal(x):
@@ -76,5 +76,17 @@ def look(path):
         say(f'can be made, with {counted(v.m, "partial")}, {counted(v.k, "channel")} and {counted(v.j, "noise band")}\n')
 
 
-for path in sys.argv[1:]:
-    look(path)
+def main(words):
+    if '--help' in words or '-h' in words:
+        print(__doc__.strip())
+        return 0
+    if not words or any(w.startswith('-') for w in words):
+        print('look: tables are needed, and no option but --help is known: tools/look.py TABLE ..', file=sys.stderr)
+        return 2
+    for path in words:
+        look(path)
+    return 0
+
+
+if __name__ == '__main__':
+    sys.exit(status(main, sys.argv[1:]))

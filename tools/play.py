@@ -10,6 +10,7 @@ writes to standard output for a file of that name: crates/tone/stdout was made s
 import argparse
 import math
 import struct
+import sys
 import zlib
 
 
@@ -229,8 +230,20 @@ def wav(rate, samples):
     return b'RIFF' + struct.pack('<I', len(head) + len(data)) + head + data
 
 
-def main():
-    p = argparse.ArgumentParser()
+def status(work, words):
+    """Does the work of a tool with its arguments, and answers the status: 1 for a file that cannot be read or played, and why is said."""
+    try:
+        return work(words) or 0
+    except OSError as e:
+        print(f'{e.filename or "standard output"}: {e.strerror}', file=sys.stderr)
+    except (AssertionError, ValueError, struct.error, IndexError) as e:
+        why = str(e) or 'the mark or the version is another'
+        print(f'no table that can be played, or no centres for it: {why}', file=sys.stderr)
+    return 1
+
+
+def main(words):
+    p = argparse.ArgumentParser(description=__doc__, formatter_class=argparse.RawDescriptionHelpFormatter)
     p.add_argument('table')
     p.add_argument('--single', type=int, default=0)
     p.add_argument('--blend', action='store_true')
@@ -242,7 +255,7 @@ def main():
     p.add_argument('--seed', type=int)
     p.add_argument('--centres')
     p.add_argument('--words')
-    o = p.parse_args()
+    o = p.parse_args(words)
     freq = 220.0 if o.freq is None else o.freq
     centres = [decimal(l.strip()) for l in open(o.centres) if l.strip() and not l.startswith('#')] if o.centres else []
     v = Voice(table(open(o.table, 'rb').read()), None if o.blend else o.single, float(o.rate), centres)
@@ -275,4 +288,4 @@ def main():
 
 
 if __name__ == '__main__':
-    main()
+    sys.exit(status(main, sys.argv[1:]))
