@@ -8,7 +8,7 @@ ROOT = Path(__file__).resolve().parent.parent
 def main(doc, files):
     """Writes the files, by path from the root; with --check compares them; --help prints the tool's words. Answers the status."""
     asked = sys.argv[1:]
-    if asked == ['--help']:
+    if asked in (['--help'], ['-h']):
         print(doc.strip())
         return 0
     if asked not in ([], ['--check']):

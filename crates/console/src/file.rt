@@ -54,12 +54,6 @@ fn read_all(fd: i32, buf: &mut [u8]) -> FileRead
     }
 }
 
-// Says a file's name and why the call before failed: a write that succeeds leaves errno alone.
-fn fail(path: &[u8]) {
-    say::name(2, path);
-    os::fail(b"");
-}
-
 // Reads the file with a name. Where that fails, it has said so on standard error. The contract only speaks of how many bytes were read:
 // which bytes a file holds, no contract can say.
 pub fn read(path: &[u8], buf: &mut [u8]) -> FileRead
@@ -67,7 +61,7 @@ pub fn read(path: &[u8], buf: &mut [u8]) -> FileRead
 {
     let fd = os::open_read(path);
     if fd < 0 {
-        fail(path);
+        say::failed(path);
         return FileRead {
             failed: true,
             bytes: 0,
@@ -75,7 +69,7 @@ pub fn read(path: &[u8], buf: &mut [u8]) -> FileRead
     }
     let r = read_all(fd, buf);
     if r.failed {
-        fail(path);
+        say::failed(path);
     }
     libc::close(fd);
     r

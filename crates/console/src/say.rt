@@ -126,3 +126,9 @@ pub fn name(fd: i32, s: &[u8]) {
         i += 1;
     }
 }
+
+// A file's name, and why the call before failed: a write that succeeds leaves errno alone.
+pub fn failed(path: &[u8]) {
+    name(2, path);
+    os::fail(b"");
+}

@@ -115,17 +115,11 @@ fn fill_file(o: Options, fd: i32, voice: Voice, total: u32) -> Run {
     fill(o, fd, start, total)
 }
 
-// Says a file's name and why the call before failed: a write that succeeds leaves errno alone.
-fn fail(path: &[u8]) {
-    say::name(2, path);
-    os::fail(b"");
-}
-
 // Whether the file is there in full: every byte written, and on its device.
 fn is_whole(run: Run, fd: i32, path: &[u8]) -> bool {
     let s = run.sink;
     if s.short {
-        fail(path);
+        say::failed(path);
         return false;
     }
     if run.number != 0 {
@@ -141,7 +135,7 @@ fn is_whole(run: Run, fd: i32, path: &[u8]) -> bool {
         return false;
     }
     if libc::fsync(fd) < 0 {
-        fail(path);
+        say::failed(path);
         return false;
     }
     true
@@ -183,13 +177,13 @@ fn give_name(path: &[u8], part: &[u8]) -> bool {
         if os::errno() == libc::EEXIST {
             say_taken(path);
         } else {
-            fail(path);
+            say::failed(path);
         }
         return false;
     }
     libc::close(own);
     if os::rename(part, path) < 0 {
-        fail(path);
+        say::failed(path);
         os::unlink(path);
         return false;
     }
@@ -199,7 +193,7 @@ fn give_name(path: &[u8], part: &[u8]) -> bool {
 // Says that the part cannot be made, and where one is there, why that may be.
 fn no_part(part: &[u8]) {
     let there = os::errno() == libc::EEXIST;
-    fail(part);
+    say::failed(part);
     if there {
         say::text(
             2,
@@ -246,7 +240,7 @@ fn make_file(o: Options, voice: Voice, path: &[u8], part: &[u8]) {
     }
     if whole {
         if closed < 0 {
-            fail(part);
+            say::failed(part);
         } else {
             if give_name(path, part) {
                 report(path, o, run, total);
