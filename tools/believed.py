@@ -87,11 +87,11 @@ def reached(crates):
 def faults(crates):
     """How many definitions are to be believed, and those that stand on the wrong side."""
     found, seen = reached(crates)
-    lists = {line.split(':')[0].strip(): line.split(':')[1].split() for line in (crates.parent / 'crates.txt').read_text().splitlines() if ':' in line}
-    libraries, wrong = {'sounder', 'claim', *lists.get('sounder', ())}, []
+    below = re.search(r'^sounder:(.*)$', (crates.parent / 'crates.txt').read_text(), re.M)
+    libraries, wrong = {'sounder', 'claim', *below[1].split()}, []
     for key, (file, _) in sorted(found.items()):
         inner = 'inner' in file.relative_to(crates).parts or file.name == 'inner.antt'
         if key[0] in libraries and inner == (key in seen):
-            side = 'is to be believed, and stands in specs/inner' if inner else 'is cited by no callable function, and stands outside specs/inner'
-            wrong.append(f'{file.relative_to(crates).as_posix()}: {key[2]} {side}')
+            side = 'is to be believed, and stands in' if inner else 'is cited by no callable function, and stands outside'
+            wrong.append(f'{file.relative_to(crates).as_posix()}: {key[2]} {side} specs/inner')
     return len(seen), wrong
