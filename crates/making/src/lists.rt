@@ -11,13 +11,14 @@ use crate::init::Bands;
 use filters::BiquadCoeffs;
 use voice::BANDS_AT;
 use voice::COMPENSATIONS;
+use voice::LISTS_PLACES;
 use voice::MAINLOBE_GAINS;
 use voice::NOISE_GAINS;
 use voice::PITCHES;
 use voice::STRETCHES;
 
 // List n put in its place. (And it is 16 long: where an array comes out of a struct, a proof does not know it.)
-fn put_list(mut lists: [f32; 160], list: [f32; 16], n: usize) -> [f32; 160]
+fn put_list(mut lists: [f32; LISTS_PLACES], list: [f32; 16], n: usize) -> [f32; LISTS_PLACES]
     requires { ⌜ n < 10 ⌝ }
     ensures { λ r. ⌜ (r ≡ take (n * 16) lists ++ (list ++ drop (n * 16 + 16) lists)) × (length list ≡ 16) ⌝ }
 {
@@ -31,7 +32,7 @@ fn put_list(mut lists: [f32; 160], list: [f32; 16], n: usize) -> [f32; 160]
 }
 
 // The bands' coefficients, five a band, put after the first four lists.
-fn put_bands(mut lists: [f32; 160], bands: [BiquadCoeffs; 16]) -> [f32; 160]
+fn put_bands(mut lists: [f32; LISTS_PLACES], bands: [BiquadCoeffs; 16]) -> [f32; LISTS_PLACES]
     ensures { λ r. ⌜ r ≡ take bandsAt lists ++ (bandFloats bands ++ drop (compensationsList * 16) lists) ⌝ }
 {
     let mut b = 0;
@@ -48,7 +49,7 @@ fn put_bands(mut lists: [f32; 160], bands: [BiquadCoeffs; 16]) -> [f32; 160]
     lists
 }
 
-pub fn lists_of(cols: Columns, bands: Bands) -> [f32; 160]
+pub fn lists_of(cols: Columns, bands: Bands) -> [f32; LISTS_PLACES]
     ensures { λ r. ⌜ r ≡ listsFrom cols bands ⌝ }
 {
     let f0_hz = cols.f0_hz;
@@ -57,7 +58,7 @@ pub fn lists_of(cols: Columns, bands: Bands) -> [f32; 160]
     let noise_gain = cols.noise_gain;
     let coeffs = bands.coeffs;
     let compensation = bands.compensation;
-    let pitches = put_list([0.0; 160], f0_hz, PITCHES);
+    let pitches = put_list([0.0; LISTS_PLACES], f0_hz, PITCHES);
     let stretches = put_list(pitches, stretch, STRETCHES);
     let mainlobes = put_list(stretches, mainlobe_gain, MAINLOBE_GAINS);
     let noises = put_list(mainlobes, noise_gain, NOISE_GAINS);

@@ -29,6 +29,7 @@ use table::desk::Kind;
 use table::entry::EntryView;
 use table::read::Reading;
 use table::views::views_of;
+use voice::LISTS_PLACES;
 use voice::MAX_ENTRIES;
 use voice::Setting;
 use voice::State;
@@ -57,7 +58,7 @@ fn blank() -> Voice
             sample_rate: 0.0,
             live: [0; 16],
         },
-        lists: [0.0; 160],
+        lists: [0.0; LISTS_PLACES],
         partials: [0.0; 2048],
         noise: [0.0; 1024],
         state: State {

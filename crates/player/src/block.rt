@@ -10,6 +10,7 @@ ghost use Rattle.voice.specs.Limits.{maxSamples, maxChannels};
 use crate::channel::channel_of;
 use crate::input::part_of;
 use filters::Rng;
+use voice::LISTS_PLACES;
 use voice::Setting;
 use voice::Shape;
 
@@ -22,7 +23,7 @@ struct ChannelStart {
 // The inputs are resolved to the parts that the channel reads, once for all its samples.
 fn channel_at(
     set: Setting,
-    lists: &[f32; 160],
+    lists: &[f32; LISTS_PLACES],
     partials: &[f32; 2048],
     noise: &[f32; 1024],
     phases: &mut [f32; 32],
@@ -70,7 +71,7 @@ fn channel_at(
 
 pub fn block_of(
     set: Setting,
-    lists: &[f32; 160],
+    lists: &[f32; LISTS_PLACES],
     partials: &[f32; 2048],
     noise: &[f32; 1024],
     phases: &mut [f32; 32],

@@ -13,6 +13,7 @@ use crate::noise::pass::noise_pass;
 use crate::partials::in_columns::partials_in_columns;
 use crate::partials::one_by_one::partials_one_by_one;
 use filters::Rng;
+use voice::LISTS_PLACES;
 use voice::Setting;
 
 fn silence(out: &mut [f32])
@@ -28,7 +29,7 @@ fn silence(out: &mut [f32])
 // The partials: none, few, or so many that columns are worth while.
 fn all_partials(
     set: Setting,
-    lists: &[f32; 160],
+    lists: &[f32; LISTS_PLACES],
     partials: &[f32; 2048],
     phases: &mut [f32; 32],
     freq: &[f32],
@@ -57,7 +58,7 @@ fn all_partials(
 // The inputs are the parts that the channel reads.
 pub fn channel_of(
     set: Setting,
-    lists: &[f32; 160],
+    lists: &[f32; LISTS_PLACES],
     partials: &[f32; 2048],
     noise: &[f32; 1024],
     phases: &mut [f32; 32],

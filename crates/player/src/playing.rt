@@ -5,6 +5,7 @@ ghost use Rattle.player.specs.Playing.{Plays, PlaysParts};
 use crate::bands::ticking;
 use crate::block::block_of;
 use filters::Rng;
+use voice::LISTS_PLACES;
 use voice::Played;
 use voice::Setting;
 use voice::Shape;
@@ -22,7 +23,7 @@ pub struct Moved {
 // all of it as it is.
 pub fn play_parts<'a>(
     set: Setting,
-    lists: &'a [f32; 160],
+    lists: &'a [f32; LISTS_PLACES],
     partials: &'a [f32; 2048],
     noise: &'a [f32; 1024],
     phases: &mut [f32; 32],

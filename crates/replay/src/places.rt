@@ -8,6 +8,7 @@ use crate::tally::same;
 use crate::tally::same_count;
 use crate::tally::same_float;
 use voice::BiquadCoeffs;
+use voice::LISTS_PLACES;
 use voice::Rng;
 use voice::Setting;
 use voice::State;
@@ -34,7 +35,7 @@ pub fn blank() -> Voice {
     };
     Voice {
         set,
-        lists: [0.0; 160],
+        lists: [0.0; LISTS_PLACES],
         partials: [0.0; 2048],
         noise: [0.0; 1024],
         state,
@@ -136,7 +137,7 @@ fn set_float(mut v: Voice, field: u32, i: usize, x: f32) -> Voice {
         return v;
     }
     let at = place_of(field, i);
-    if at < 160 {
+    if at < LISTS_PLACES {
         v.lists[at] = x;
     }
     v

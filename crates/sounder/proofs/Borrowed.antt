@@ -26,6 +26,7 @@ use denote.Builtin.{f32}
 use denote.Steps.{opens, closes, owned, peeks}
 use denote.Struct.Steps.{spelt}
 use denote.Struct.Laws as LL
+use Rattle.voice.specs.Limits.{listsPlaces}
 use Rattle.voice.specs.Voice.{withState, stateOf}
 use Rattle.voice.specs.declared.answer.Restarted.{Restarted}
 use Rattle.voice.specs.declared.voice.Setting.{Setting}
@@ -55,7 +56,7 @@ abbrev pub IsSet : Setting → Type 0
 IsSet s = Is N.the-row s (N′.lowered s ∷ [])
 
 abbrev pub IsLists : List Float → Type 0
-IsLists xs = Is (Array f32 160) xs (listsVal xs ∷ [])
+IsLists xs = Is (Array f32 listsPlaces) xs (listsVal xs ∷ [])
 
 abbrev pub IsState : State → Type 0
 IsState s = Is S.the-row s (S′.lowered s ∷ [])
@@ -103,8 +104,8 @@ module _ {M : Type 1} (𝓤 : URA M) (H : Heap 𝓤) (A : Atoms 𝓤) (W : Given
   pub typed-set : (s : Setting) → IsSet s → Has N′.mir (N′.lowered s)
   typed-set s is = LL.lawful N.the-type N′.the-laws 𝓤 H A W .typed s _ is .0
 
-  pub typed-lists : (xs : List Float) → IsLists xs → Has (tyArray (tyFloat binary32) 160) (listsVal xs)
-  typed-lists xs is = array-lawful 𝓤 H A W f32 (float-lawful 𝓤 H A W binary32) 160 .typed xs _ is .0
+  pub typed-lists : (xs : List Float) → IsLists xs → Has (tyArray (tyFloat binary32) listsPlaces) (listsVal xs)
+  typed-lists xs is = array-lawful 𝓤 H A W f32 (float-lawful 𝓤 H A W binary32) listsPlaces .typed xs _ is .0
 
   pub typed-state : (s : State) → IsState s → Has S′.mir (S′.lowered s)
   typed-state s is = LL.lawful S.the-type S′.the-laws 𝓤 H A W .typed s _ is .0
@@ -147,8 +148,8 @@ module _ {M : Type 1} {𝓤 : URA M} {H : Heap 𝓤} {A : Atoms 𝓤} {K : Type 
 
     -- copies of the numbers, the short lists and the running state, before what else a callee is handed
     pub copied : K → (v : Voice) → IsVoice v → {P : Fml}
-        → Step K W (‵ (fsep (N.the-row .own (v .set) (N′.lowered (v .set) ∷ [])) (fsep (Array f32 160 .own (v .lists) (listsVal (v .lists) ∷ [])) (fsep (S.the-row .own (v .state) (S′.lowered (v .state) ∷ [])) P))) ∷ Γ) G (‵ P ∷ Γ) G
+        → Step K W (‵ (fsep (N.the-row .own (v .set) (N′.lowered (v .set) ∷ [])) (fsep (Array f32 listsPlaces .own (v .lists) (listsVal (v .lists) ∷ [])) (fsep (S.the-row .own (v .state) (S′.lowered (v .state) ∷ [])) P))) ∷ Γ) G (‵ P ∷ Γ) G
     copied t v g =
         step (λ s. owned t S.the-row (Is S.the-row) (LL.makes S.the-type S′.the-plain 𝓤 H A) (v .state) _ (is-state v g) $ fjoin t $
-        owned t (Array f32 160) (Is (Array f32 160)) (array-makes 𝓤 H A W f32 (float-makes 𝓤 H A W binary32) 160) (v .lists) _ (is-lists v g) $ fjoin t $
+        owned t (Array f32 listsPlaces) (Is (Array f32 listsPlaces)) (array-makes 𝓤 H A W f32 (float-makes 𝓤 H A W binary32) listsPlaces) (v .lists) _ (is-lists v g) $ fjoin t $
         owned t N.the-row (Is N.the-row) (LL.makes N.the-type N′.the-plain 𝓤 H A) (v .set) _ (is-set v g) $ fjoin t $ s)

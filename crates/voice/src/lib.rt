@@ -21,6 +21,7 @@ pub use limits::MAX_PARTIALS;
 pub use limits::MAX_SAMPLES;
 pub use lists::BANDS_AT;
 pub use lists::COMPENSATIONS;
+pub use lists::LISTS_PLACES;
 pub use lists::MAINLOBE_GAINS;
 pub use lists::NOISE_GAINS;
 pub use lists::PITCHES;

@@ -2,6 +2,9 @@
 ghost use mathlib.Core.Path.{_≡_};
 ghost use Rattle.voice.specs.Voice.{listAt};
 
+// The places of all of them.
+pub const LISTS_PLACES: usize = 160;
+
 // Which is which.
 pub const PITCHES: usize = 0;
 
@@ -17,7 +20,7 @@ pub const COMPENSATIONS: usize = 9;
 pub const BANDS_AT: usize = 64;
 
 // List n by itself; where there is none, no number in any place.
-pub fn list_of(lists: &[f32; 160], n: usize) -> [f32; 16]
+pub fn list_of(lists: &[f32; LISTS_PLACES], n: usize) -> [f32; 16]
     ensures { λ r. ⌜ r ≡ listAt (now (lists .entry)) n ⌝ }
 {
     let s = &lists[..];

@@ -11,6 +11,7 @@ ghost use Rattle.voice.specs.Limits.{maxSamples};
 use crate::limits::MAX_CHANNELS;
 use crate::limits::MAX_HZ;
 use crate::limits::MAX_SAMPLES;
+use crate::lists::LISTS_PLACES;
 use crate::rules::both;
 use crate::rules::rules_of;
 use crate::shape::Shape;
@@ -106,7 +107,7 @@ fn inputs_ok(
 // output.
 pub fn play_question<'a>(
     set: Setting,
-    lists: &'a [f32; 160],
+    lists: &'a [f32; LISTS_PLACES],
     phases: &'a [f32; 32],
     b: Shape,
     freq: &[f32],

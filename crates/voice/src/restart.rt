@@ -4,6 +4,7 @@ ghost use Rattle.voice.specs.Restart.{resetOf, reseedOf, reseededState, 
 ghost use Rattle.voice.specs.Voice.{firstState};
 use crate::answer::Played;
 use crate::answer::Restarted;
+use crate::lists::LISTS_PLACES;
 use crate::rules::keeps_rules;
 use crate::rules::rules_of;
 use crate::voice::Setting;
@@ -61,7 +62,7 @@ pub fn reseed(mut voice: Voice, seed: u32) -> Played
 
 // Of a voice whose numbers, short lists and running state are handed in by themselves: 0 and the state after, where question 13 is answered
 // yes; else 13 and the state as given.
-fn restart(set: Setting, lists: [f32; 160], state: State, after: State) -> Restarted
+fn restart(set: Setting, lists: [f32; LISTS_PLACES], state: State, after: State) -> Restarted
     ensures { λ r. ⌜ r ≡ restarted set lists state after ⌝ }
 {
     if !rules_of(set, &lists, &state.phases) {
@@ -74,13 +75,13 @@ fn restart(set: Setting, lists: [f32; 160], state: State, after: State) -> Resta
 }
 
 // Reset and reseed of such a voice: what they come to where a voice lies.
-pub fn reset_state(set: Setting, lists: [f32; 160], state: State) -> Restarted
+pub fn reset_state(set: Setting, lists: [f32; LISTS_PLACES], state: State) -> Restarted
     ensures { λ r. ⌜ r ≡ restarted set lists state firstState ⌝ }
 {
     restart(set, lists, state, first_state())
 }
 
-pub fn reseed_state(set: Setting, lists: [f32; 160], state: State, seed: u32) -> Restarted
+pub fn reseed_state(set: Setting, lists: [f32; LISTS_PLACES], state: State, seed: u32) -> Restarted
     ensures { λ r. ⌜ r ≡ restarted set lists state (reseededState state seed) ⌝ }
 {
     restart(set, lists, state, reseeded(state, seed))

@@ -13,6 +13,7 @@ use crate::limits::MAX_BLENDED;
 use crate::limits::MAX_ENTRIES;
 use crate::limits::MAX_HZ;
 use crate::limits::MAX_PARTIALS;
+use crate::lists::LISTS_PLACES;
 use crate::lists::PITCHES;
 use crate::lists::STRETCHES;
 use crate::lists::band_of;
@@ -145,7 +146,7 @@ fn counts_ok(count: usize, m: usize, j: usize, k: usize, live_count: usize) -> b
 }
 
 // Question 13, of what of a voice it looks at: its numbers, its short lists and its phases.
-pub fn rules_of<'a>(set: Setting, lists: &'a [f32; 160], phases: &'a [f32; 32]) -> bool
+pub fn rules_of<'a>(set: Setting, lists: &'a [f32; LISTS_PLACES], phases: &'a [f32; 32]) -> bool
     ensures { λ r. ⌜ r ≡ rulesOf set (now (lists .entry)) (now (phases .entry)) ⌝ }
 {
     if !counts_ok(set.count, set.m, set.j, set.k, set.live_count) {

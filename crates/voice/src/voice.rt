@@ -1,4 +1,5 @@
 // A voice: everything that a tone is made of, by value. It crosses to C as it is.
+use crate::lists::LISTS_PLACES;
 use filters::Rng;
 
 // The running state: phases, two memories for each band, one band after the other, and the noise number.
@@ -29,7 +30,7 @@ pub struct Setting {
 pub struct Voice {
     pub set: Setting,
     // 16 pitches, ascending; 16 stretches, mainlobe gains and noise gains; 16 bands of five coefficients; 16 compensations
-    pub lists: [f32; 160],
+    pub lists: [f32; LISTS_PLACES],
     pub partials: [f32; 2048], // entry × 128 + channel × 32 + partial
     pub noise: [f32; 1024], // entry × 64 + channel × 16 + band
     pub state: State,

@@ -7,6 +7,7 @@ ghost use Rattle.player.specs.inner.Columns.{LiveIn, Memories, Coeffs, T
 ghost use Rattle.voice.specs.Limits.{maxBands};
 ghost use Rattle.voice.specs.Voice.{bandsAt};
 use voice::BANDS_AT;
+use voice::LISTS_PLACES;
 use voice::band_of;
 
 // The memories of the live bands, which lie two a band in 32 places.
@@ -34,7 +35,13 @@ pub fn gather_memories(
 }
 
 // Row q, after the q rows before it: their coefficient q, in the order b0, b1, b2, a1, a2.
-fn gather_row(coeffs: &mut [f32; 160], lists: &[f32; 160], live: &[u8; 16], q: usize, n: usize)
+fn gather_row(
+    coeffs: &mut [f32; 160],
+    lists: &[f32; LISTS_PLACES],
+    live: &[u8; 16],
+    q: usize,
+    n: usize,
+)
     requires { ⌜ (q < 5) × (n ≤ maxBands) × LiveIn (now live) n
         × FilledRows (now coeffs) (λ q l. getD (now lists) (bandsAt + getD (now live) l 0 * 5 + q) nan) q n ⌝ }
     ensures { λ r. ⌜ FilledRows (now (coeffs .exit)) (λ q l. getD (now (lists .entry)) (bandsAt + getD (now (live .entry)) l 0 * 5 + q) nan)
@@ -51,7 +58,12 @@ fn gather_row(coeffs: &mut [f32; 160], lists: &[f32; 160], live: &[u8; 16], q: u
 }
 
 // Their coefficients, in five rows.
-pub fn gather_coeffs(coeffs: &mut [f32; 160], lists: &[f32; 160], live: &[u8; 16], n: usize)
+pub fn gather_coeffs(
+    coeffs: &mut [f32; 160],
+    lists: &[f32; LISTS_PLACES],
+    live: &[u8; 16],
+    n: usize,
+)
     requires { ⌜ (n ≤ maxBands) × LiveIn (now live) n ⌝ }
     ensures { λ r. ⌜ Coeffs (now (coeffs .exit)) (now (lists .entry)) (now (live .entry)) n ⌝ }
 {

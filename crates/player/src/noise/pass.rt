@@ -19,6 +19,7 @@ use crate::tuning::noise_untuned;
 use crate::tuning::tune_noise;
 use filters::Rng;
 use voice::COMPENSATIONS;
+use voice::LISTS_PLACES;
 use voice::NOISE_GAINS;
 use voice::PITCHES;
 use voice::Setting;
@@ -26,7 +27,7 @@ use voice::list_of;
 
 pub fn noise_pass(
     set: Setting,
-    lists: &[f32; 160],
+    lists: &[f32; LISTS_PLACES],
     noise: &[f32; 1024],
     memories: &mut [f32; 32],
     first: Rng,

@@ -15,6 +15,7 @@ use crate::partials::sines::sines_of;
 use crate::partials::sum::partial_sum;
 use crate::tuning::tune;
 use crate::tuning::untuned;
+use voice::LISTS_PLACES;
 use voice::MAINLOBE_GAINS;
 use voice::PITCHES;
 use voice::STRETCHES;
@@ -24,7 +25,7 @@ use wave_table::waves;
 
 pub fn partials_in_columns(
     set: Setting,
-    lists: &[f32; 160],
+    lists: &[f32; LISTS_PLACES],
     partials: &[f32; 2048],
     phases: &mut [f32; 32],
     freq: &[f32],

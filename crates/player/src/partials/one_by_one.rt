@@ -12,6 +12,7 @@ use crate::input::gains_for;
 use crate::partials::sample::sample_of;
 use crate::pitch::kept::no_pitch;
 use crate::pitch::kept::pitch_kept;
+use voice::LISTS_PLACES;
 use voice::MAINLOBE_GAINS;
 use voice::PITCHES;
 use voice::STRETCHES;
@@ -21,7 +22,7 @@ use wave_table::table;
 
 pub fn partials_one_by_one(
     set: Setting,
-    lists: &[f32; 160],
+    lists: &[f32; LISTS_PLACES],
     partials: &[f32; 2048],
     phases: &mut [f32; 32],
     freq: &[f32],

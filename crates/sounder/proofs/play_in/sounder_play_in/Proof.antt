@@ -64,7 +64,7 @@ use Rattle.player.proofs.playing.Moved as R
 use Rattle.player.proofs.playing.Moved.Laws as R′
 use Rattle.sounder.proofs.BoundaryLaws.{plays-in}
 use Rattle.sounder.proofs.Borrowed.{IsVoice, IsRng, written-out, is-set, is-state, is-rng, with-rng, with-state, typed-set, typed-rng, spelt-voice, opens-voice, closes-voice}
-use Rattle.sounder.proofs.Fields.{Names, listRef, ToLists, ToPartials, ToNoise, ToPhases, ToMemories, LenderKeeps, lends, back, whole-in, whole-out}
+use Rattle.sounder.proofs.Fields.{listsByte, partialsByte, noiseByte, stateByte, Names, listRef, ToLists, ToPartials, ToNoise, ToPhases, ToMemories, LenderKeeps, lends, back, whole-in, whole-out}
 use Rattle.player.proofs.play_parts as parts
 use Rattle.player.proofs.play_parts.Symbol as parts-def
 use Rattle.player.proofs.play_parts.Symbol.{name as #player·play-parts}
@@ -138,7 +138,7 @@ module _ {M : Type 1} (𝓤 : URA M) (H : Heap 𝓤) (A : Atoms 𝓤) (W : Given
 
   -- what the work's triple binds outside: the lists lent for ν, the phases for μ, the memories for π, each under a name
   abbrev passed : Names → Setting × (RefT (List Float) × (RefT (List Float) × (RefT (List Float) × (RefT (List Float) × (RefT (List Float) × (Rng × (Shape × (RefT (List Float) × (RefT (List Float) × (RefT (List Float) × (RefT (List Float) × (RefT (List Float) × (RefT (List Float) × (Unit {0}))))))))))))))
-  passed γ = (h .set, (listRef b (o + 72) (γ .lists) (h .lists), (listRef b (o + 712) (γ .partials) (h .partials), (listRef b (o + 8904) (γ .noise) (h .noise), (listRef b (o + 13000 + 0) (γ .phases) (h .state .phases), (listRef b (o + 13000 + 128) (γ .memories) (h .state .memories), (h .state .rng, (bl, (fs, (s0, (s1, (s2, (s3, (os, tt))))))))))))))
+  passed γ = (h .set, (listRef b (o + listsByte) (γ .lists) (h .lists), (listRef b (o + partialsByte) (γ .partials) (h .partials), (listRef b (o + noiseByte) (γ .noise) (h .noise), (listRef b (o + stateByte + 0) (γ .phases) (h .state .phases), (listRef b (o + stateByte + 128) (γ .memories) (h .state .memories), (h .state .rng, (bl, (fs, (s0, (s1, (s2, (s3, (os, tt))))))))))))))
 
   abbrev lfts : ℕ → ℕ → ℕ → Lft × (Lft × (Lft × (Lft × (Lft × (Lft × (Lft × (Lft × (Lft × (Unit {0})))))))))
   lfts ν μ π = (ν ∷ [], (μ ∷ [], (π ∷ [], (κ₁, (κ₂, (κ₃, (κ₄, (κ₅, (κ₆, tt)))))))))
@@ -150,7 +150,7 @@ module _ {M : Type 1} (𝓤 : URA M) (H : Heap 𝓤) (A : Atoms 𝓤) (W : Given
       (fullShare, (fullShare, (fullShare, (q₁, (q₂, (q₃, (q₄, (q₅, (q₆, tt))))))))),
       tt,
       passed γ,
-      (N′.lowered (h .set) ∷ [], (vptr b (o + 72) ∷ [], (vptr b (o + 712) ∷ [], (vptr b (o + 8904) ∷ [], (vptr b (o + 13000 + 0) ∷ [], (vptr b (o + 13000 + 128) ∷ [], (G′.lowered (h .state .rng) ∷ [], (B′.lowered bl ∷ [], (vfs ∷ [], (vs0 ∷ [], (vs1 ∷ [], (vs2 ∷ [], (vs3 ∷ [], (vo ∷ [], tt)))))))))))))),
+      (N′.lowered (h .set) ∷ [], (vptr b (o + listsByte) ∷ [], (vptr b (o + partialsByte) ∷ [], (vptr b (o + noiseByte) ∷ [], (vptr b (o + stateByte + 0) ∷ [], (vptr b (o + stateByte + 128) ∷ [], (G′.lowered (h .state .rng) ∷ [], (B′.lowered bl ∷ [], (vfs ∷ [], (vs0 ∷ [], (vs1 ∷ [], (vs2 ∷ [], (vs3 ∷ [], (vo ∷ [], tt)))))))))))))),
     ),
     tt,
   )
