@@ -1,7 +1,7 @@
 -- What an accepted making says: the image is read, and every question of its table is answered yes. Every refusal of a reading has a number
 -- above 0, so that number 0 is "accepted". Assumes nothing.
 use Prim.Native.Nat.{ℕ, zero, suc, _+_, _*_}
-use mathlib.Core.Path.{_≡_, refl, ap, _∙_}
+use mathlib.Core.Path.{_≡_, refl, ap, sym, subst, _∙_}
 use mathlib.Core.List.{List, [], _∷_}
 use mathlib.Core.Bool.{Bool, true, false, _&&_, cond}
 use native.Mathlib.Omega.{arith}
@@ -14,7 +14,7 @@ use Rattle.table.specs.declared.span.Span.{Span}
 use Rattle.table.specs.Table.{PitchEntry, CoeffTable, same}
 use Rattle.table.specs.Image.{text, counted, pair, pairs, entry, entries, header, magic}
 use Rattle.table.specs.Span.{Verdict, agreed, broken, beside, agree, start, consistent, spanOf, floatEq, ruled}
-use Rattle.table.specs.Decode.{decode}
+use Rattle.table.specs.Decode.{decode, entriesOf}
 use Rattle.making.specs.Making.{Making, makeQuestion, questionOf}
 use Rattle.making.proofs.MakingLaws.{Accepted, table-accepted}
 
@@ -160,3 +160,7 @@ make-accepted {G} m h g = go (decode (m .image)) refl h
     go : (p : Parsed CoeffTable) → decode (m .image) ≡ p → questionOf (m .kind) p (m .rate) (m .centres) .number ≡ 0 → G
     go (ok t e) q n = g t e q (table-accepted (m .kind) (t .entries) (m .rate) (m .centres) n)
     go (refused r) q n = absurd (decode-numbered (m .image) r q n)
+
+-- the same, said of the entries that the image gives
+pub made-accepted : (m : Making) → makeQuestion m .number ≡ 0 → Accepted (m .kind) (entriesOf (decode (m .image))) (m .rate) (m .centres)
+made-accepted m e = make-accepted m e λ t n d A. subst (λ (p : Parsed CoeffTable). Accepted (m .kind) (entriesOf p) (m .rate) (m .centres)) (sym d) A

@@ -2,7 +2,7 @@
 use Prim.Native.Nat.{ℕ, zero, suc, _+_, _-_, _*_, _≤_, _<_}
 use mathlib.Core.Path.{_≡_, refl, ap, _∙_}
 use mathlib.Core.Logic.{_⊎_, inl, inr}
-use mathlib.Core.List.{List, [], _∷_, _++_, map, append-nil}
+use mathlib.Core.List.{List, [], _∷_, _++_, map, append-nil, append-assoc}
 use mathlib.Core.Bool.{Bool, true, false, _&&_, cond}
 use native.Mathlib.Omega.{arith}
 use native.Mathlib.Nat.{eq-or-lt-of-le, le-of-suc-le-suc}
@@ -21,12 +21,14 @@ use Rattle.table.specs.Decode.{decode, entriesOf}
 use Rattle.table.specs.Desk.{bandCount}
 use Rattle.float.specs.F32.{quotient}
 use Rattle.voice.specs.Lists.{joinTo, every, padded}
-use Rattle.voice.specs.Voice.{pitchOk, stretchOk, phaseOk, pitchesAscend, bandsAscend, countsOk, entriesOk, liveOk, phasesOk, rulesOf, keepsRules, pitches, stretches, bandAt}
-use Rattle.filters.specs.Biquad.{noiseBand}
-use Rattle.filters.specs.Band.{zeroCoeffs}
-use Rattle.making.proofs.PutLaws.{length-mapped, getD-past, list-first, list-later, joinTo-at}
-use Rattle.making.specs.Making.{f32, all, sizesOk, valuesOk, keeps, insertByPitch, gathered, voiceEntries, channelCount, partialCoeff, isNonzero, presentFinite, mainlobeKey, noiseGainKey, partialReach, reachIn, most, phasesFor, phaseCount, isLive, liveBands, gainOf, coeffFloats, freshLists, freshVoice, Making, makeQuestion}
+use Rattle.voice.specs.Voice.{pitchOk, stretchOk, phaseOk, pitchesAscend, bandsAscend, countsOk, entriesOk, liveOk, centresFinite, phasesOk, rulesOf, keepsRules, listAt, pitches, stretches, bandAt}
+use Rattle.filters.specs.Band.{zeroCoeffs, bandFrom}
+use Rattle.voice.specs.Bands.{coeffFloats, initFloats}
+use Rattle.voice.proofs.PutLaws.{length-mapped, length-padded, getD-past, list-first, list-later, joinTo-at}
+use Rattle.voice.proofs.InitLaws.{length-init, centres-at}
+use Rattle.making.specs.Making.{f32, all, sizesOk, valuesOk, keeps, insertByPitch, gathered, voiceEntries, channelCount, partialCoeff, isNonzero, presentFinite, mainlobeKey, noiseGainKey, partialReach, reachIn, most, phasesFor, phaseCount, isLive, liveBands, gainOf, freshLists, freshVoice, Making, makeQuestion}
 use Rattle.voice.proofs.Loops.{both-true, length-joinTo, at-every, getD-padded}
+use Rattle.making.proofs.ListLaws.{four, length-four}
 use Rattle.making.proofs.SortLaws.{all-insert, all-gathered, bands-few}
 use Rattle.making.proofs.MakingLaws.{Accepted, live-short}
 use Rattle.making.proofs.AcceptedLaws.{make-accepted}
@@ -47,6 +49,12 @@ padded-all : {A : Type 0} (test : Float → Bool) (g : A → Float) (z : Float) 
     → every (λ i. test (getD (padded n z (map g l)) i nan)) (length l) ≡ true
 padded-all test g z n l h = at-every _ (length l) λ i k.
     ap test (getD-padded n z nan (map g l) i (rw (length-map l g) k)) ∙ all-getD test g l i h k
+
+all-at : (test : Float → Bool) (l : List Float) (i : ℕ) → all test l ≡ true → i < length l → test (getD l i nan) ≡ true
+unfolding all
+all-at test [] i h k = absurd (omega arith)
+all-at test (x ∷ l) zero h k = both-true (test x) (all test l) h .0
+all-at test (x ∷ l) (suc i) h k = all-at test l i (both-true (test x) (all test l) h .1) (omega arith)
 
 -- ---- sorted entries ascend
 abbrev pitch : PitchEntry → Float
@@ -282,28 +290,58 @@ module _ (k : Kind) (es : List PitchEntry) (rate : Float) (centres : List Float)
       list-later (column pitch (voiceEntries k es)) _ 0 (sized pitch)
       ∙ list-first (column (λ e. f32 (e .stretch)) (voiceEntries k es)) _ (sized (λ e. f32 (e .stretch)))
 
+  -- how many places its short lists have
+  pub fresh-places : length centres ≤ 16 → length (freshVoice k es rate centres .lists) ≡ 176
+  unfolding freshVoice freshLists
+  fresh-places h =
+      let vs = voiceEntries k es in
+      let a = column pitch vs in
+      let b = column (λ e. f32 (e .stretch)) vs in
+      let c = column (gainOf mainlobeKey) vs in
+      let d = column (gainOf noiseGainKey) vs in
+      let x = initFloats centres rate in
+      let z = padded 16 (quotient 0 1) centres in
+      let front : length (((a ++ b) ++ c) ++ d) ≡ 64 = length-four a b c d (sized pitch) (sized (λ e. f32 (e .stretch))) (sized (gainOf mainlobeKey)) (sized (gainOf noiseGainKey)) in
+      let rest : length (x ++ z) ≡ 112 = length-append x z ∙ rw (length-init centres rate h, length-padded (quotient 0 1) 16 centres h) refl in
+      ap length (four a b c d (x ++ z)) ∙ length-append (((a ++ b) ++ c) ++ d) (x ++ z) ∙ rw (front, rest) refl
+
+  -- LAW
+  pub fresh-centres : length centres ≤ 16 → listAt (freshVoice k es rate centres .lists) 10 ≡ padded 16 (quotient 0 1) centres
+  unfolding freshVoice freshLists
+  fresh-centres h =
+      let vs = voiceEntries k es in
+      let a = column pitch vs in
+      let b = column (λ e. f32 (e .stretch)) vs in
+      let c = column (gainOf mainlobeKey) vs in
+      let d = column (gainOf noiseGainKey) vs in
+      let z = padded 16 (quotient 0 1) centres in
+      ap (λ (l : List Float). listAt l 10) (four a b c d (initFloats centres rate ++ z))
+      ∙ centres-at (((a ++ b) ++ c) ++ d) (initFloats centres rate) z (length-four a b c d (sized pitch) (sized (λ e. f32 (e .stretch))) (sized (gainOf mainlobeKey)) (sized (gainOf noiseGainKey)))
+      (length-init centres rate h) (length-padded (quotient 0 1) 16 centres h)
+
   -- place i of band b
   band-place : length centres ≤ 16 → (b i : ℕ) → b < 16 → i < 5
       → getD (freshVoice k es rate centres .lists) (16 + (16 + (16 + (16 + (b * 5 + i))))) nan
-      ≡ getD (coeffFloats (getD (padded 16 zeroCoeffs (map (λ c. noiseBand c rate) centres)) b zeroCoeffs)) i nan
-  unfolding freshVoice freshLists
+      ≡ getD (coeffFloats (getD (padded 16 zeroCoeffs (map (λ c. bandFrom c rate .coeffs) centres)) b zeroCoeffs)) i nan
+  unfolding freshVoice freshLists initFloats
   band-place h b i l m =
       let vs = voiceEntries k es in
-      let bands = padded 16 zeroCoeffs (map (λ (c : Float). noiseBand c rate) centres) in
+      let bands = padded 16 zeroCoeffs (map (λ (c : Float). bandFrom c rate .coeffs) centres) in
       let f : ℕ → List Float = λ b. coeffFloats (getD bands b zeroCoeffs) in
       let n = length-joinTo f 5 (λ i. refl) 16 in
       getD-past (column pitch vs) _ 16 (16 + (16 + (16 + (b * 5 + i)))) nan (sized pitch)
       ∙ getD-past (column (λ e. f32 (e .stretch)) vs) _ 16 (16 + (16 + (b * 5 + i))) nan (sized (λ e. f32 (e .stretch)))
       ∙ getD-past (column (gainOf mainlobeKey) vs) _ 16 (16 + (b * 5 + i)) nan (sized (gainOf mainlobeKey))
       ∙ getD-past (column (gainOf noiseGainKey) vs) _ 16 (b * 5 + i) nan (sized (gainOf noiseGainKey))
+      ∙ ap (λ (l : List Float). getD l (b * 5 + i) nan) (append-assoc (joinTo f 16) _ _)
       ∙ List·getD-append (joinTo f 16) _ nan (b * 5 + i) (omega arith)
       ∙ joinTo-at f 5 (λ i. refl) 16 b i nan l m
 
   -- LAW
   pub fresh-band : length centres ≤ 16 → (b : ℕ) → b < 16
-      → bandAt (freshVoice k es rate centres .lists) b ≡ getD (padded 16 zeroCoeffs (map (λ c. noiseBand c rate) centres)) b zeroCoeffs
+      → bandAt (freshVoice k es rate centres .lists) b ≡ getD (padded 16 zeroCoeffs (map (λ c. bandFrom c rate .coeffs) centres)) b zeroCoeffs
   fresh-band h b l =
-      let at : (i : ℕ) → i < 5 → getD (freshVoice k es rate centres .lists) (64 + b * 5 + i) nan ≡ getD (coeffFloats (getD (padded 16 zeroCoeffs (map (λ c. noiseBand c rate) centres)) b zeroCoeffs)) i nan
+      let at : (i : ℕ) → i < 5 → getD (freshVoice k es rate centres .lists) (64 + b * 5 + i) nan ≡ getD (coeffFloats (getD (padded 16 zeroCoeffs (map (λ c. bandFrom c rate .coeffs) centres)) b zeroCoeffs)) i nan
       = λ i m. let q : 64 + b * 5 + i ≡ 16 + (16 + (16 + (16 + (b * 5 + i)))) = omega arith in rw q (band-place h b i l m) in
       let z : 64 + b * 5 ≡ 64 + b * 5 + 0 = omega arith in
       rw (ap (λ (x : ℕ). getD (freshVoice k es rate centres .lists) x nan) z ∙ at 0 (omega arith), at 1 (omega arith), at 2 (omega arith), at 3 (omega arith), at 4 (omega arith)) refl
@@ -341,11 +379,21 @@ module _ (k : Kind) (es : List PitchEntry) (rate : Float) (centres : List Float)
       let r = live-rising k es (bandCount k es) in
       and-true _ _ (bands-below (bandCount k es) (liveBands k es (bandCount k es)) r) (bands-ascend (bandCount k es) (liveBands k es (bandCount k es)) r)
 
+  centres-ok : centresFinite (freshVoice k es rate centres .lists) (bandCount k es) ≡ true
+  unfolding centresFinite all
+  centres-ok =
+      let b = bands-few k es (a .sizes) in
+      at-every _ (bandCount k es) λ i l.
+      rw (fresh-centres k es rate centres entries-few (omega (arith, a .as-many)), getD-padded 16 (quotient 0 1) nan centres i (omega (arith, a .as-many)))
+      (all-at finite centres i (a .centres-finite) (omega (arith, a .as-many)))
+
   pub accepted-rules : keepsRules (freshVoice k es rate centres) ≡ true
   unfolding rulesOf freshVoice
   accepted-rules =
       and-true _ _ counts-ok
-      (and-true _ _ entries-ok (and-true _ _ (a .rate-ok) (and-true _ _ live-ok (phases-ok _ (phases-few k (channelCount k es) es (a .sizes))))))
+      (and-true _ _ entries-ok
+      (and-true _ _ (a .rate-ok)
+      (and-true _ _ live-ok (and-true _ _ centres-ok (phases-ok _ (phases-few k (channelCount k es) es (a .sizes)))))))
 
 -- LAW: a fresh voice keeps the voice rules
 pub fresh-rules : (m : Making) → makeQuestion m .number ≡ 0 → keepsRules (freshVoice (m .kind) (entriesOf (decode (m .image))) (m .rate) (m .centres)) ≡ true

@@ -1,6 +1,6 @@
 pub mod ViewLaws
 pub mod MakeLists
-pub mod PutLaws
+pub mod ListLaws
 pub mod CoeffLaws
 pub mod GatherLaws
 pub mod PlaceLaws
@@ -10,4 +10,5 @@ pub mod ReadLaws
 pub mod VoiceFields
 pub mod AcceptedLaws
 pub mod FreshLaws
+pub mod RetuneLaws
 pub mod MakeApart

@@ -3,7 +3,7 @@ use Prim.Native.Nat.{ℕ, zero, suc, _+_, _*_, _/_, _%_, max, min}
 use mathlib.Core.List.{List, [], _∷_, _++_, map}
 use mathlib.Core.Bool.{Bool, true, false, _&&_, _||_, cond}
 use mathlib.Core.Option.{Option, some, none}
-use lib.ListN.{length, getD, replicate}
+use lib.ListN.{length, replicate}
 use lib.Dec.{leb, ltb, eqb}
 use lib.Ieee.{Float, binary32, ofBits, lt, ne}
 use lib.Ieee.Scale.{finite}
@@ -13,12 +13,10 @@ use Rattle.table.specs.Table.{PitchEntry, CoeffTable, mPartials, hasChannel, co
 use Rattle.table.specs.Decode.{decode, entriesOf}
 use Rattle.table.specs.Desk.{bandCount}
 use Rattle.float.specs.F32.{quotient}
-use Rattle.voice.specs.Lists.{upTo, joinTo, padded}
+use Rattle.voice.specs.Lists.{upTo, padded}
 use Rattle.voice.specs.Limits.{maxEntries, maxPartials, maxBands, maxBlended, listsPlaces, partialsPlaces, noisePlaces}
-use Rattle.filters.specs.Biquad.{noiseBand}
-use Rattle.filters.specs.Band.{zeroCoeffs, bandCompensation}
-use Rattle.filters.specs.declared.biquad.BiquadCoeffs.{BiquadCoeffs}
 use Rattle.voice.specs.Voice.{pitchOk, stretchOk, rateOk, voiceOf, stateOf, noMemories, firstState}
+use Rattle.voice.specs.Bands.{initFloats}
 use Rattle.voice.specs.Question.{accepted}
 use Rattle.voice.specs.declared.voice.Voice.{Voice}
 
@@ -170,22 +168,15 @@ abbrev pub kindChannel : Kind → ℕ
 kindChannel (Kind.Single c) = c
 kindChannel Kind.Blend = 0
 
--- the five coefficients of a band as they stand in a voice's lists
-abbrev pub coeffFloats : BiquadCoeffs → List Float
-coeffFloats c = c .b0 ∷ c .b1 ∷ c .b2 ∷ c .a1 ∷ c .a2 ∷ []
-
-abbrev pub bandFloats : List BiquadCoeffs → List Float
-bandFloats bands = joinTo (λ b. coeffFloats (getD bands b zeroCoeffs)) maxBands
-
--- the short lists: the entries' pitches, stretches and gains, the bands and their compensations. Places that are not in use are 0.
+-- the short lists: the entries' pitches, stretches and gains, what `init` gives, and the centres as they were given. Places that are not in
+-- use are 0.
 unfoldable pub freshLists : List PitchEntry → Float → List Float → List Float
 freshLists vs rate centres =
     padded maxEntries (quotient 0 1) (map (λ e. f32 (e .f0Hz)) vs)
     ++ (padded maxEntries (quotient 0 1) (map (λ e. f32 (e .stretch)) vs)
     ++ (padded maxEntries (quotient 0 1) (map (gainOf mainlobeKey) vs)
     ++ (padded maxEntries (quotient 0 1) (map (gainOf noiseGainKey) vs)
-    ++ (bandFloats (padded maxBands zeroCoeffs (map (λ c. noiseBand c rate) centres))
-    ++ padded maxBands (quotient 0 1) (map (λ c. bandCompensation c rate) centres)))))
+    ++ (initFloats centres rate ++ padded maxBands (quotient 0 1) centres))))
 
 -- what an accepted making answers: its numbers; of the entries kept, sorted by pitch, the short lists and the coefficients; the first state
 unfoldable pub freshVoice : Kind → List PitchEntry → Float → List Float → Voice

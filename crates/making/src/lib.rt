@@ -4,7 +4,6 @@ mod coeffs;
 mod counts;
 mod fill;
 mod gather;
-mod init;
 mod limits;
 mod lists;
 mod live;

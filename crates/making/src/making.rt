@@ -5,7 +5,6 @@ ghost use mathlib.Core.List.{List};
 ghost use mathlib.Core.Bool.{true};
 ghost use lib.ListN.{length};
 ghost use Rattle.table.specs.Desk.{bandCount};
-ghost use Rattle.voice.specs.Voice.{rateOk};
 ghost use Rattle.making.specs.Making.{all, sizesOk, kindNumber, kindChannel, freshVoice, blankVoice, making, makeOf};
 ghost use Rattle.making.specs.inner.Views.{viewed};
 ghost use Rattle.making.specs.Answer.{makeRefusal, madeOf};
@@ -21,7 +20,7 @@ use crate::fill::columns_of;
 use crate::fill::noise;
 use crate::fill::partials;
 use crate::gather::gather;
-use crate::init::init;
+use crate::lists::centres_list;
 use crate::lists::lists_of;
 use crate::live::live_bands;
 use filters::Rng;
@@ -35,6 +34,7 @@ use voice::Setting;
 use voice::State;
 use voice::Voice;
 use voice::first_state;
+use voice::init;
 
 // The answer, and the voice: the blank one where the making is refused.
 pub struct MadeVoice {
@@ -97,7 +97,7 @@ fn fresh(
     centres: &[f32],
 ) -> Voice
     requires { ⌜ count ≤ maxEntries ⌝ ∗ ⌜ all sizesOk (viewed (now image) views count) ≡ true ⌝
-        ∗ ⌜ j ≡ bandCount kind (viewed (now image) views count) ⌝ ∗ ⌜ rateOk «sample_rate» ≡ true ⌝ ∗ ⌜ length (now centres) ≡ j ⌝ }
+        ∗ ⌜ j ≡ bandCount kind (viewed (now image) views count) ⌝ ∗ ⌜ length (now centres) ≡ j ⌝ }
     ensures { λ r. ⌜ r ≡ freshVoice kind (viewed (now (image .entry)) views count) «sample_rate» (now (centres .entry)) ⌝ }
 {
     let k = channel_count(views, count, kind);
@@ -107,7 +107,7 @@ fn fresh(
     let entries = sorted.views;
     let n = sorted.count;
     let cols = columns_of(image, entries, n);
-    let bands = init(sample_rate, centres);
+    let lists = lists_of(cols, centres_list(centres));
     let live_list = live.bands;
     Voice {
         set: Setting {
@@ -121,7 +121,7 @@ fn fresh(
             sample_rate,
             live: live_list,
         },
-        lists: lists_of(cols, bands),
+        lists: init(lists, j as usize, sample_rate),
         partials: partials(image, entries, n, kind, k),
         noise: noise(image, entries, n, kind, k),
         state: first_state(),

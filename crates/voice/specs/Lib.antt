@@ -4,3 +4,6 @@ pub mod Voice
 pub mod Input
 pub mod Question
 pub mod Restart
+pub mod Bands
+pub mod Retuning
+pub mod inner

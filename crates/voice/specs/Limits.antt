@@ -25,13 +25,16 @@ maxChannels = 8
 abbrev pub maxHz : ℕ
 maxHz = 20000
 
--- ---- how a voice lies: the places of a short list, of all of them, and of an entry's coefficients, of partials and of noise, over the
--- channels of a blend; those of all entries; and the memories, two a band
+-- ---- how a voice lies: the places of a short list, how many short lists there are, and the places of all of them; those of an entry's
+-- coefficients, of partials and of noise, over the channels of a blend; those of all entries; and the memories, two a band
 abbrev pub listPlaces : ℕ
 listPlaces = 16
 
+abbrev pub shortLists : ℕ
+shortLists = 11
+
 abbrev pub listsPlaces : ℕ
-listsPlaces = 160
+listsPlaces = 176
 
 abbrev pub entryPartials : ℕ
 entryPartials = 128

@@ -1,13 +1,14 @@
 -- A voice: its lists by their names, the voice rules, which question 13 asks, and its running state: another one, and the first.
 use Prim.Native.Nat.{ℕ, _+_, _-_, _*_}
-use mathlib.Core.List.{List}
-use mathlib.Core.Bool.{Bool, _&&_}
-use lib.ListN.{getD, set, replicate}
+use mathlib.Core.List.{List, _++_}
+use mathlib.Core.Bool.{Bool, _&&_, cond}
+use lib.ListN.{getD, set, take, drop, replicate}
 use lib.Dec.{leb, ltb}
 use lib.Ieee.{Float, nan, le, lt}
+use lib.Ieee.Scale.{finite}
 use Rattle.float.specs.F32.{quotient}
 use Rattle.voice.specs.Lists.{every, upTo}
-use Rattle.voice.specs.Limits.{maxEntries, maxPartials, maxBands, maxBlended, maxHz, listPlaces, memoryPlaces}
+use Rattle.voice.specs.Limits.{maxEntries, maxPartials, maxBands, maxBlended, maxHz, listPlaces, shortLists, memoryPlaces}
 pub use Rattle.filters.specs.Rate.{rateOk}
 use Rattle.filters.specs.Rng.{newRng, defaultSeed}
 use Rattle.filters.specs.declared.biquad.BiquadCoeffs.{BiquadCoeffs}
@@ -33,6 +34,9 @@ noiseGainsList = 3
 abbrev pub compensationsList : ℕ
 compensationsList = 9
 
+abbrev pub centresList : ℕ
+centresList = 10
+
 -- where the first band's coefficients stand: those of the bands, five a band, take the places of lists 4 to 8
 abbrev pub bandsAt : ℕ
 bandsAt = 64
@@ -55,6 +59,10 @@ noiseGains v = listAt (v .lists) noiseGainsList
 
 abbrev pub compensations : Voice → List Float
 compensations v = listAt (v .lists) compensationsList
+
+-- the lists with another list n; where there is none, as they are
+unfoldable pub withList : List Float → ℕ → List Float → List Float
+withList xs n list = cond (ltb n shortLists) (take (n * listPlaces) xs ++ (list ++ drop (n * listPlaces + listPlaces) xs)) xs
 
 -- the five coefficients of band b
 abbrev pub bandAt : List Float → ℕ → BiquadCoeffs
@@ -109,6 +117,10 @@ entriesOk xs n =
 unfoldable pub liveOk : Setting → Bool
 liveOk s = every (λ i. ltb (getD (s .live) i 0) (s .j)) (s .«live_count») && bandsAscend (s .live) (s .«live_count»)
 
+-- the first j centres are finite
+unfoldable pub centresFinite : List Float → ℕ → Bool
+centresFinite xs j = every (λ i. finite (getD (listAt xs centresList) i nan)) j
+
 -- the first m phases at least 0 and below 1
 unfoldable pub phasesOk : List Float → ℕ → Bool
 phasesOk ps m = every (λ i. phaseOk (getD ps i nan)) m
@@ -117,7 +129,9 @@ phasesOk ps m = every (λ i. phaseOk (getD ps i nan)) m
 -- `rateOk`.)
 unfoldable pub rulesOf : Setting → List Float → List Float → Bool
 rulesOf s lists phases =
-    countsOk s && (entriesOk lists (s .count) && (rateOk (s .«sample_rate») && (liveOk s && phasesOk phases (s .m))))
+    countsOk s
+    && (entriesOk lists (s .count)
+    && (rateOk (s .«sample_rate») && (liveOk s && (centresFinite lists (s .j) && phasesOk phases (s .m)))))
 
 -- does the voice keep the voice rules?
 abbrev pub keepsRules : Voice → Bool

@@ -1,15 +1,19 @@
-// A voice, its rules, the questions 13 to 16 that a call on it is asked, reset and reseed.
+// A voice, its rules, the questions 13 to 16 (11 of a retune) that a call on it is asked, what `init` gives it, reset, reseed and retune.
 mod answer;
+mod bands;
 mod limits;
 mod lists;
 mod question;
 mod restart;
+mod retuning;
 mod rules;
 mod shape;
 mod voice;
 
 pub use answer::Played;
 pub use answer::Restarted;
+pub use answer::Retuned;
+pub use bands::init;
 pub use filters::BiquadCoeffs;
 pub use filters::Rng;
 pub use limits::MAX_BANDS;
@@ -20,6 +24,7 @@ pub use limits::MAX_HZ;
 pub use limits::MAX_PARTIALS;
 pub use limits::MAX_SAMPLES;
 pub use lists::BANDS_AT;
+pub use lists::CENTRES;
 pub use lists::COMPENSATIONS;
 pub use lists::LISTS_PLACES;
 pub use lists::MAINLOBE_GAINS;
@@ -28,12 +33,15 @@ pub use lists::PITCHES;
 pub use lists::STRETCHES;
 pub use lists::band_of;
 pub use lists::list_of;
+pub use lists::put_list;
 pub use question::play_question;
 pub use restart::first_state;
 pub use restart::reseed;
 pub use restart::reseed_state;
 pub use restart::reset;
 pub use restart::reset_state;
+pub use retuning::retune;
+pub use retuning::retune_parts;
 pub use rules::pitch_ok;
 pub use rules::rate_ok;
 pub use rules::stretch_ok;

@@ -1,4 +1,5 @@
-// The limits of a voice and of a block, each by its name. (The lengths of arrays stand as numbers beside them: a voice's layout.)
+// The limits of a voice and of a block, each by its name. (The lengths of arrays stand as numbers beside them, but for that of the short
+// lists: a voice's layout.)
 
 // Of a voice: entries, partials, noise bands, and channels that a blend takes.
 pub const MAX_ENTRIES: usize = 16;

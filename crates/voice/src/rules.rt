@@ -4,6 +4,7 @@ ghost use mathlib.Core.Bool.{_&&_};
 ghost use Prim.Native.Nat.{_≤_};
 ghost use lib.ListN.{getD};
 ghost use lib.Ieee.{nan};
+ghost use lib.Ieee.Scale.{finite};
 ghost use lib.Dec.{leb, ltb};
 ghost use Rattle.voice.specs.Lists.{every};
 ghost use Rattle.voice.specs.Voice.{phaseOk, pitchOk, stretchOk, rateOk, pitchesAscend, bandsAscend, phasesOk, rulesOf, keepsRules};
@@ -13,6 +14,7 @@ use crate::limits::MAX_BLENDED;
 use crate::limits::MAX_ENTRIES;
 use crate::limits::MAX_HZ;
 use crate::limits::MAX_PARTIALS;
+use crate::lists::CENTRES;
 use crate::lists::LISTS_PLACES;
 use crate::lists::PITCHES;
 use crate::lists::STRETCHES;
@@ -145,6 +147,19 @@ fn counts_ok(count: usize, m: usize, j: usize, k: usize, live_count: usize) -> b
     )
 }
 
+fn centres_finite(centres: &[f32; 16], j: usize) -> bool
+    requires { ⌜ j ≤ maxBands ⌝ }
+    ensures { λ r. ⌜ r ≡ every (λ i. finite (getD (now (centres .entry)) i nan)) j ⌝ }
+{
+    let mut ok = true;
+    let mut i = 0;
+    while i < j {
+        ok = both(ok, float::is_finite(centres[i]));
+        i += 1;
+    }
+    ok
+}
+
 // Question 13, of what of a voice it looks at: its numbers, its short lists and its phases.
 pub fn rules_of<'a>(set: Setting, lists: &'a [f32; LISTS_PLACES], phases: &'a [f32; 32]) -> bool
     ensures { λ r. ⌜ r ≡ rulesOf set (now (lists .entry)) (now (phases .entry)) ⌝ }
@@ -160,9 +175,14 @@ pub fn rules_of<'a>(set: Setting, lists: &'a [f32; LISTS_PLACES], phases: &'a [f
     let rate = rate_ok(set.sample_rate);
     let below = live_below(&set.live, set.live_count, set.j);
     let order = bands_ascend(&set.live, set.live_count);
+    let centres = list_of(lists, CENTRES);
+    let finite = centres_finite(&centres, set.j);
     let moving = phases_ok(phases, set.m);
     let entries = both(pitches, both(ascend, stretches));
-    both(entries, both(rate, both(both(below, order), moving)))
+    both(
+        entries,
+        both(rate, both(both(below, order), both(finite, moving))),
+    )
 }
 
 // Question 13.

@@ -25,11 +25,12 @@ pub struct Setting {
 }
 
 // Places that are not in use are 0 in a fresh voice. A play leaves them as given; a reset writes all of the state, a reseed
-// all memories and the noise number.
+// all memories and the noise number, a retune all bands and compensations.
 #[repr(C)]
 pub struct Voice {
     pub set: Setting,
-    // 16 pitches, ascending; 16 stretches, mainlobe gains and noise gains; 16 bands of five coefficients; 16 compensations
+    // 16 pitches, ascending; 16 stretches, mainlobe gains and noise gains; 16 bands of five coefficients; 16 compensations;
+    // 16 centres, as they were given to the making
     pub lists: [f32; LISTS_PLACES],
     pub partials: [f32; 2048], // entry × 128 + channel × 32 + partial
     pub noise: [f32; 1024], // entry × 64 + channel × 16 + band

@@ -2,17 +2,19 @@
 use Prim.Native.Nat.{ℕ}
 use mathlib.Core.List.{List, _++_, map}
 use mathlib.Core.Option.{Option, some, none}
+use lib.ListN.{replicate}
 use lib.Ieee.{Float}
 use Rattle.table.specs.Table.{PitchEntry}
 use Rattle.float.specs.F32.{quotient}
 use Rattle.voice.specs.Lists.{padded}
-use Rattle.voice.specs.Limits.{maxEntries, maxBands}
-use Rattle.filters.specs.Biquad.{noiseBand}
-use Rattle.making.specs.Making.{f32, gainOf, mainlobeKey, noiseGainKey, bandFloats}
-use Rattle.filters.specs.Band.{zeroCoeffs, bandCompensation}
+use Rattle.voice.specs.Limits.{maxEntries}
+use Rattle.making.specs.Making.{f32, gainOf, mainlobeKey, noiseGainKey}
 use Rattle.making.specs.declared.fill.Columns.{Columns}
 use Rattle.making.specs.declared.fill.Slot.{Slot}
-use Rattle.making.specs.declared.init.Bands.{Bands}
+
+-- the places of lists 4 to 9: the bands' coefficients and their compensations
+abbrev pub bandPlaces : ℕ
+bandPlaces = 96
 
 -- what each sorted entry has one of
 abbrev pub columnsOf : List PitchEntry → Columns
@@ -23,18 +25,11 @@ columnsOf vs = record {
   «noise_gain» = padded maxEntries (quotient 0 1) (map (gainOf noiseGainKey) vs);
 }
 
--- what each band has one of
-abbrev pub bandsFrom : List Float → Float → Bands
-bandsFrom centres rate = record {
-  coeffs = padded maxBands zeroCoeffs (map (λ c. noiseBand c rate) centres);
-  compensation = padded maxBands (quotient 0 1) (map (λ c. bandCompensation c rate) centres);
-}
-
--- both laid one after the other, as a voice has them
-abbrev pub listsFrom : Columns → Bands → List Float
-listsFrom cols bands =
+-- these and the centres laid one after the other, as a voice has them, with no band worked out: 0 for the coefficients and compensations
+abbrev pub listsFrom : Columns → List Float → List Float
+listsFrom cols centres =
     cols .«f0_hz»
-    ++ (cols .stretch ++ (cols .«mainlobe_gain» ++ (cols .«noise_gain» ++ (bandFloats (bands .coeffs) ++ bands .compensation))))
+    ++ (cols .stretch ++ (cols .«mainlobe_gain» ++ (cols .«noise_gain» ++ (replicate bandPlaces (quotient 0 1) ++ centres))))
 
 -- the channel that a slot holds
 abbrev pub slotOption : Slot → Option ℕ

@@ -11,7 +11,7 @@ use Rattle.float.specs.F32.{quotient}
 use Rattle.voice.specs.Lists.{padded}
 use Rattle.making.specs.Making.{f32, gainOf, mainlobeKey, noiseGainKey}
 use Rattle.making.specs.inner.Views.{noView}
-use Rattle.making.proofs.MakeLists.{pad-again-2}
+use Rattle.voice.proofs.PadLaws.{pad-again-2}
 use borrow.Author.Needs.{needs}
 use Rattle.making.proofs.fill.columns_of.Statement.{statement}
 use Rattle.making.proofs.fill.columns_of.Tie as tie

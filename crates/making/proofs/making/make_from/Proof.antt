@@ -36,7 +36,7 @@ fresh-requires c κs =
     let z = ap (λ (q : Refusal). q .number) (sym (b2 .question .ensures)) ∙ eqb-true _ _ (sym (b1 .is-done .ensures) ∙ c .if1 .taken) in
     let a = table-accepted (b6 .args .kind) es (b6 .args .sample-rate) (b6 .args .centres .now) z in
     let j = b3 .band-count .ensures (b6 .args .image .now) in
-    (b6 .pre, (a .sizes, (j, (a .rate-ok, a .as-many ∙ sym j))))
+    (b6 .pre, (a .sizes, (j, a .as-many ∙ sym j)))
 
 -- src/making.rt:150:9
 returns : tie.Need-returns

@@ -23,7 +23,7 @@ unfolding listAt upTo ofBits div
 returns c =
     let b2 = c .before .before in
     let f : ℕ → Float = λ i. getD (b2 .args .lists .now) (b2 .args .n * 16 + i) nan in
-    let s : length (b2 .args .lists .now) ≡ 160 = search needs in
+    let s : length (b2 .args .lists .now) ≡ 176 = search needs in
     sym (upTo-as f (λ i. nan) 16 (λ i l. List·getD-eq-default (b2 .args .lists .now) nan (omega (arith, c .if1 .taken, s))))
 
 mul-from : tie.Need-mul-from Inv-loop μ-loop

@@ -3,7 +3,7 @@ use Prim.Native.Nat.{_≤_}
 use mathlib.Core.Path.{_≡_, sym, _∙_}
 use mathlib.Core.Bool.{true}
 use borrow.Author.Tests.{not-true, not-false}
-use Rattle.voice.specs.Voice.{rulesOf, countsOk, entriesOk, liveOk}
+use Rattle.voice.specs.Voice.{rulesOf, countsOk, entriesOk, liveOk, centresFinite}
 use Rattle.voice.specs.declared.voice.Setting.{Setting}
 use Rattle.voice.proofs.QuestionLaws.{counts-are}
 use borrow.Author.Needs.{needs}
@@ -72,13 +72,24 @@ bands-ascend-requires c κs =
     let b16 = b15 .before in
     sizes (b16 .args .t1) (sym (b15 .counts-ok .ensures) ∙ not-false _ (b14 .if1 .left)) .4
 
+list-of-requires-3 : tie.Need-list-of-requires-3
+list-of-requires-3 c κs = search needs
+
+centres-finite-requires : tie.Need-centres-finite-requires
+unfolding countsOk
+centres-finite-requires c κs =
+    let b17 = c .before .before .before .before .before .before .before .before .before .before .before .before .before .before .before .before .before in
+    let b18 = b17 .before in
+    let b19 = b18 .before in
+    sizes (b19 .args .t1) (sym (b18 .counts-ok .ensures) ∙ not-false _ (b17 .if1 .left)) .2
+
 phases-ok-requires : tie.Need-phases-ok-requires
 unfolding countsOk
 phases-ok-requires c κs =
-    let b15 = c .before .before .before .before .before .before .before .before .before .before .before .before .before .before .before in
-    let b16 = b15 .before in
-    let b17 = b16 .before in
-    sizes (b17 .args .t1) (sym (b16 .counts-ok .ensures) ∙ not-false _ (b15 .if1 .left)) .1
+    let b18 = c .before .before .before .before .before .before .before .before .before .before .before .before .before .before .before .before .before .before in
+    let b19 = b18 .before in
+    let b20 = b19 .before in
+    sizes (b20 .args .t1) (sym (b19 .counts-ok .ensures) ∙ not-false _ (b18 .if1 .left)) .1
 
 both-requires : tie.Need-both-requires
 both-requires c κs = search needs
@@ -98,8 +109,11 @@ both-requires-5 c κs = search needs
 both-requires-6 : tie.Need-both-requires-6
 both-requires-6 c κs = search needs
 
+both-requires-7 : tie.Need-both-requires-7
+both-requires-7 c κs = search needs
+
 returns-2 : tie.Need-returns-2
-unfolding rulesOf countsOk entriesOk liveOk
+unfolding rulesOf countsOk entriesOk liveOk centresFinite
 returns-2 c =
     let b1 = c .before in
     let b2 = b1 .before in
@@ -108,16 +122,19 @@ returns-2 c =
     let b5 = b4 .before in
     let b6 = b5 .before in
     let b7 = b6 .before in
-    let b10 = b7 .before .before .before in
-    let b13 = b10 .before .before .before in
-    let b14 = b13 .before in
-    let b16 = b14 .before .before in
-    let b18 = b16 .before .before in
+    let b8 = b7 .before in
+    let b10 = b8 .before .before in
+    let b11 = b10 .before in
+    let b14 = b11 .before .before .before in
+    let b17 = b14 .before .before .before in
+    let b18 = b17 .before in
     let b20 = b18 .before .before in
-    let b21 = b20 .before in
-    let b22 = b21 .before in
-    let b23 = b22 .before in
-    rw (sym (b23 .counts-ok .ensures) ∙ not-false _ (b22 .if1 .left), c .both6 .ensures, b1 .both5 .ensures, b2 .both4 .ensures, b3 .both3 .ensures, b4 .both2 .ensures, b5 .both .ensures, b18 .pitches-ok .ensures, b16 .pitches-ascend .ensures, b14 .stretches-ok .ensures, b13 .rate-ok .ensures, b10 .live-below .ensures, b7 .bands-ascend .ensures, b6 .phases-ok .ensures, b21 .list-of .ensures, b20 .list-of2 .ensures)
+    let b22 = b20 .before .before in
+    let b24 = b22 .before .before in
+    let b25 = b24 .before in
+    let b26 = b25 .before in
+    let b27 = b26 .before in
+    rw (sym (b27 .counts-ok .ensures) ∙ not-false _ (b26 .if1 .left), c .both7 .ensures, b1 .both6 .ensures, b2 .both5 .ensures, b3 .both4 .ensures, b4 .both3 .ensures, b5 .both2 .ensures, b6 .both .ensures, b22 .pitches-ok .ensures, b20 .pitches-ascend .ensures, b18 .stretches-ok .ensures, b17 .rate-ok .ensures, b14 .live-below .ensures, b11 .bands-ascend .ensures, b8 .centres-finite .ensures, b7 .phases-ok .ensures, b25 .list-of .ensures, b24 .list-of2 .ensures, b10 .list-of3 .ensures)
 
 pub rules-of-spec : {M : Type 1} → statement M
 rules-of-spec =
@@ -133,6 +150,8 @@ rules-of-spec =
     rate-ok-requires
     live-below-requires
     bands-ascend-requires
+    list-of-requires-3
+    centres-finite-requires
     phases-ok-requires
     both-requires
     both-requires-2
@@ -140,4 +159,5 @@ rules-of-spec =
     both-requires-4
     both-requires-5
     both-requires-6
+    both-requires-7
     returns-2)

@@ -4,13 +4,13 @@ use Prim.Native.Nat.{ℕ, _≤_, _-_, _+_, _*_}
 use native.Mathlib.Omega.{arith}
 use lib.ListN.{take, drop, getD}
 use lib.Ieee.{Float}
 use Rattle.voice.specs.Lists.{joinTo}
 use Rattle.filters.specs.Band.{zeroCoeffs}
-use Rattle.making.specs.Making.{coeffFloats}
-use Rattle.making.proofs.PutLaws.{put-start, bands-again, put-end}
+use Rattle.voice.specs.Bands.{coeffFloats}
+use Rattle.voice.proofs.PutLaws.{put-start, bands-again, put-end}
 use borrow.Author.Needs.{needs}
-use Rattle.making.proofs.lists.put_bands.Statement.{statement}
-use Rattle.making.proofs.lists.put_bands.Tie as tie
+use Rattle.voice.proofs.bands.put_bands.Statement.{statement}
+use Rattle.voice.proofs.bands.put_bands.Tie as tie
 
 abbrev Inv-loop : tie.InvT-loop
 Inv-loop lists₀ bands b₀ lists b = (b ≤ 16) × (lists ≡ (take 64 lists₀ ++ joinTo (λ b. coeffFloats (getD bands b zeroCoeffs)) b) ++ drop (64 + b * 5) lists₀)

@@ -6,15 +6,15 @@ use mathlib.Core.List.{List, [], _∷_, _++_, map, append-assoc, append-nil}
 use native.Mathlib.Omega.{arith}
 use native.Mathlib.Numerals.{add-one}
 use native.Mathlib.Nat.{eq-or-lt-of-le}
-use lib.ListN.{length, take, drop, getD, set, length-append, length-map, length-replicate, drop-of-length-le, take-append-drop, List·getD-append}
+use lib.ListN.{length, take, drop, getD, set, length-append, length-map, length-replicate, take-append-drop, List·getD-append}
 use lib.Seq.{drop-cons, set-at, take-suc, length-take-le, getD-append-add, drop-drop, drop-at, take-at}
 use lib.Ieee.{Float, nan}
 use Rattle.voice.specs.Lists.{joinTo, padded}
 use Rattle.voice.specs.Voice.{listAt}
 use Rattle.voice.proofs.Loops.{upTo-as, upTo-same, length-joinTo, row-below, read-any}
 use Rattle.filters.specs.Band.{zeroCoeffs}
 use Rattle.filters.specs.declared.biquad.BiquadCoeffs.{BiquadCoeffs}
-use Rattle.making.specs.Making.{coeffFloats}
+use Rattle.voice.specs.Bands.{coeffFloats}
 
 pub length-padded : {A : Type 0} (z : A) (n : ℕ) (l : List A) → length l ≤ n → length (padded n z l) ≡ n
 length-padded z n l h = let a = length-replicate (n - length l) z in rw length-append (omega arith)
@@ -107,27 +107,10 @@ bands-again bands d l ls at b h k e =
     ∙ rw (w, add-one b) (ap (λ t. t ++ drop (at + b * 5 + 5) l) (append-assoc (take at l) (joinTo f b) (f b)))
 
 -- a list put after those that are there
-put-next : {A : Type 0} (p xs l ls r : List A) (n m : ℕ) → length p ≡ n → n ≤ m → ls ≡ p ++ drop n l → r ≡ take n ls ++ (xs ++ drop m ls)
+pub put-next : {A : Type 0} (p xs l ls r : List A) (n m : ℕ) → length p ≡ n → n ≤ m → ls ≡ p ++ drop n l → r ≡ take n ls ++ (xs ++ drop m ls)
     → r ≡ (p ++ xs) ++ drop m l
 put-next p xs l ls r n m q k e f =
     let j : n + (m - n) ≡ m = omega arith in
     let d : drop m (p ++ drop n l) ≡ drop m l =
     ap (λ (x : ℕ). drop x (p ++ drop n l)) (sym j) ∙ sym (drop-drop (m - n) n (p ++ drop n l)) ∙ ap (drop (m - n)) (drop-at p (drop n l) n q) ∙ drop-drop (m - n) n l ∙ ap (λ (x : ℕ). drop x l) j in
     f ∙ rw (e, take-at p (drop n l) n q, d) (sym (append-assoc p xs (drop m l)))
-
--- LAW: six lists put one after the other, with nothing left of what was there
-module _ (l a b c d e f r1 r2 r3 r4 r5 r6 : List Float) (n1 n2 n3 n4 n5 n6 : ℕ) where
-  pub six-put : length a ≡ n1 → n1 + length b ≡ n2 → n2 + length c ≡ n3 → n3 + length d ≡ n4 → n4 + length e ≡ n5 → n5 ≤ n6 → length l ≤ n6
-      → r1 ≡ a ++ drop n1 l → r2 ≡ take n1 r1 ++ (b ++ drop n2 r1) → r3 ≡ take n2 r2 ++ (c ++ drop n3 r2) → r4 ≡ take n3 r3 ++ (d ++ drop n4 r3)
-      → r5 ≡ take n4 r4 ++ (e ++ drop n5 r4) → r6 ≡ take n5 r5 ++ (f ++ drop n6 r5) → r6 ≡ a ++ (b ++ (c ++ (d ++ (e ++ f))))
-  six-put h1 h2 h3 h4 h5 h6 hl e1 e2 e3 e4 e5 e6 =
-      let j2 : length (a ++ b) ≡ n2 = rw length-append (omega arith) in
-      let j3 : length ((a ++ b) ++ c) ≡ n3 = rw (length-append, j2) h3 in
-      let j4 : length (((a ++ b) ++ c) ++ d) ≡ n4 = rw (length-append, j3) h4 in
-      let j5 : length ((((a ++ b) ++ c) ++ d) ++ e) ≡ n5 = rw (length-append, j4) h5 in
-      let s2 = put-next a b l r1 r2 n1 n2 h1 (omega arith) e1 e2 in
-      let s3 = put-next (a ++ b) c l r2 r3 n2 n3 j2 (omega arith) s2 e3 in
-      let s4 = put-next ((a ++ b) ++ c) d l r3 r4 n3 n4 j3 (omega arith) s3 e4 in
-      let s5 = put-next (((a ++ b) ++ c) ++ d) e l r4 r5 n4 n5 j4 (omega arith) s4 e5 in
-      put-next ((((a ++ b) ++ c) ++ d) ++ e) f l r5 r6 n5 n6 j5 h6 s5 e6
-      ∙ rw (drop-of-length-le l {i = n6} hl) (simp (append-assoc, append-nil))
