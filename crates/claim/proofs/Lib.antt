@@ -4,5 +4,6 @@ pub mod Rules
 pub mod Front
 pub mod Bands
 pub mod Moves
+pub mod Stands
 pub mod Theorem
 pub mod Examples

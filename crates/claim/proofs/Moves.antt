@@ -1,5 +1,5 @@
--- From a fresh voice, whatever its running state: a sample, a play, each call and a list of calls move what is in use as the machine moves.
--- Assumes nothing.
+-- From a fresh voice, whatever its running state: a sample, the samples of a play, a reset and a reseed move what is in use as the machine
+-- moves. Assumes nothing.
 use mathlib.Core.Path.{_≡_, refl, ap, sym, _∙_}
 use mathlib.Core.List.{List, [], _∷_, _++_, map}
 use mathlib.Core.Bool.{Bool, true, false, cond}
@@ -18,27 +18,26 @@ use Rattle.voice.specs.Lists.{mapTo, steps, upTo, padded}
 use Rattle.player.specs.Phase.{advanceOf, stepOf, inverseOf}
 use Rattle.filters.specs.Rng.{stepped, bipolarOf, nextBipolar, newRng}
 use Rattle.filters.specs.Biquad.{cleared, noiseBand}
-use Rattle.filters.specs.Band.{zeroCoeffs}
-use Rattle.voice.specs.Input.{frequencyAt, cleaned}
-use Rattle.voice.specs.Voice.{voiceOf, bandAt, memoryAt, keepsRules, withState, stateOf, firstState}
+use Rattle.filters.specs.Band.{zeroCoeffs, bandFrom}
+use Rattle.filters.specs.declared.biquad.BiquadCoeffs.{BiquadCoeffs}
+use Rattle.filters.proofs.BandAt.{band-coeffs}
+use Rattle.voice.specs.Input.{cleaned}
+use Rattle.voice.specs.Voice.{rateOk, voiceOf, bandAt, memoryAt, withState, stateOf, firstState}
 use Rattle.player.specs.Sound.{unitVariance, noiseIn, sidesAt, stretchAt, movedPhases, movedRng, movedMemories, moved}
 use Rattle.player.specs.Bands.{ticking}
-use Rattle.player.specs.Block.{stateAt, blockEnd}
-use Rattle.voice.specs.Question.{ask, accepted, playQuestion}
-use Rattle.player.specs.Playing.{played}
-use Rattle.voice.specs.Restart.{resetOf, reseedOf, reseededState}
-use Rattle.making.specs.Making.{f32, voiceEntries, liveBands, freshVoice, Making}
+use Rattle.player.specs.Block.{stateAt}
+use Rattle.voice.specs.Restart.{reseededState}
+use Rattle.making.specs.Making.{f32, voiceEntries, liveBands, freshVoice}
 use Rattle.voice.proofs.MemoryLaws.{length-with}
 use Rattle.making.proofs.FreshLaws.{fresh-pitches, fresh-stretches, fresh-band}
 use Rattle.filters.specs.declared.rng.Rng.{Rng}
 use Rattle.voice.specs.declared.voice.State.{State}
 use Rattle.voice.specs.declared.voice.Voice.{Voice}
-use Rattle.claim.specs.Machine.{Plain, plainFrom, Machine, Event, frequency, reset, seed, startFrom, advanced, tick, stretchOf, noiseNext, atFrequency, Supplied, supplied, move, machineFrom}
-use Rattle.claim.specs.Calls.{callOf, outLength, VoiceCall, playing, resetting, reseeding, after, run, fedBy, fed, running}
+use Rattle.claim.specs.Machine.{bandsFor, Plain, plainFrom, Machine, Event, frequency, seed, startFrom, advanced, tick, stretchOf, noiseNext, atFrequency, Supplied, supplied, move, machineFrom}
+use Rattle.claim.specs.Calls.{running}
 use Rattle.claim.proofs.Memories.{memories-first}
 use Rattle.claim.proofs.Front.{stretch-front}
 use Rattle.claim.proofs.Bands.{live-bands, isIn-live, tick-is, ticking-made}
-use Rattle.claim.proofs.Rules.{VoiceF32, question-call, question-none, rules-kept, after-state, with-32}
 
 -- the first n phases of a list whose first n are moved
 take-advanced : (f0 stretch inv : Float) (k n : ℕ) (l : List Float)
@@ -66,22 +65,10 @@ by-entries : (vs : List PitchEntry) (pitch : PitchEntry → Float) (x : Plain) (
 by-entries [] pitch x f0 look s t h = refl
 by-entries (v ∷ vs) pitch x f0 look s t h = rw (ne-eqb (suc (length vs)) 0 (λ e. omega arith)) (h (omega arith))
 
-machine-append : (y : Supplied) (a b : List Event) → machineFrom y (a ++ b) ≡ machineFrom (machineFrom y a) b
+pub machine-append : (y : Supplied) (a b : List Event) → machineFrom y (a ++ b) ≡ machineFrom (machineFrom y a) b
 unfolding machineFrom
 machine-append y [] b = refl
 machine-append y (e ∷ a) b = machine-append (move (y .source) (y .state) e) a b
-
--- no event there is changes what the machine takes: after any list of them it is what the making gave
-move-source : (x : Plain) (s : Machine) (e : Event) → move x s e .source ≡ x
-unfolding move
-move-source x s (frequency f) = refl
-move-source x s reset = refl
-move-source x s (seed n) = refl
-
-pub source-kept : (y : Supplied) (es : List Event) → machineFrom y es .source ≡ y .source
-unfolding machineFrom
-source-kept y [] = refl
-source-kept y (e ∷ es) = source-kept (move (y .source) (y .state) e) es ∙ move-source (y .source) (y .state) e
 
 -- what moves does not go by the running state of the voice
 moved-with : (v : Voice) (s t : State) (f0 : Float) → moved (withState v s) f0 t ≡ moved v f0 t
@@ -106,43 +93,31 @@ unfolding moved movedMemories
 moved-sized v f0 s h =
     cond-sized (eqb (v .set .count) 0) s _ h (record { places = steps-length _ (λ l ms. length-with ms _ _) (s .memories) (v .set .«live_count») ∙ h .places })
 
-stateAt-sized : (v : Voice) (freq : ℕ → Float) (n : ℕ) → Sized (v .state) → Sized (stateAt v freq n)
+pub stateAt-sized : (v : Voice) (freq : ℕ → Float) (n : ℕ) → Sized (v .state) → Sized (stateAt v freq n)
 unfolding stateAt steps
 stateAt-sized v freq zero h = h
 stateAt-sized v freq (suc n) h = moved-sized v (cleaned (freq n)) (stateAt v freq n) (stateAt-sized v freq n h)
 
-accepted-sized : (q : ℕ) (v : Voice) (s : State) → Sized (v .state) → Sized s → Sized (accepted q (withState v s) v .state)
-accepted-sized zero v s h k = k
-accepted-sized (suc q) v s h k = h
-
 pub first-sized : Sized firstState
 first-sized = record { places = refl }
 
-after-sized : (v : Voice) (c : VoiceCall) → Sized (v .state) → Sized (after v c .state)
-unfolding after played resetOf reseedOf
-after-sized v (playing p) h = accepted-sized (playQuestion v (callOf p) (outLength p)) v (blockEnd (ticking v) (callOf p)) h (stateAt-sized (ticking v) (frequencyAt (callOf p) 0) (p .shape .samples) h)
-after-sized v resetting h = accepted-sized (ask (keepsRules v) 13 0) v firstState h first-sized
-after-sized v (reseeding n) h = accepted-sized (ask (keepsRules v) 13 0) v (reseededState (v .state) n) h (record { places = refl })
+-- at a rate that a voice can have, the coefficients that `init` gives are the machine's
+bands-for : (rate : Float) → rateOk rate ≡ true → (centres : List Float) → map (λ c. bandFrom c rate .coeffs) centres ≡ bandsFor centres rate
+bands-for rate h [] = refl
+bands-for rate h (c ∷ cs) = rw (band-coeffs c rate h, bands-for rate h cs)
 
--- by the question's number: the voice's state and what the machine is fed
-view-accepted : (x : Plain) (q : ℕ) (v w : Voice) (evs : List Event) → supplied x (running w) ≡ machineFrom (supplied x (running v)) evs
-    → supplied x (running (accepted q w v)) ≡ machineFrom (supplied x (running v)) (accepted q evs [])
-unfolding machineFrom
-view-accepted x zero v w evs h = h
-view-accepted x (suc q) v w evs h = refl
-
-module _ (k : Kind) (es : List PitchEntry) (rate : Float) (centres : List Float) (few : length (voiceEntries k es) ≤ 16) (j : length centres ≡ bandCount k es) where
-  abbrev fresh : Voice
+module _ (k : Kind) (es : List PitchEntry) (rate : Float) (centres : List Float) (few : length (voiceEntries k es) ≤ 16) (j : length centres ≡ bandCount k es) (can : rateOk rate ≡ true) where
+  abbrev pub fresh : Voice
   fresh = freshVoice k es rate centres
 
-  abbrev plainly : Plain
+  abbrev pub plainly : Plain
   plainly = plainFrom k es rate centres
 
   -- what is in use of a state of the fresh voice, and the same beside what the machine takes
-  abbrev view : State → Machine
+  abbrev pub view : State → Machine
   view s = running (withState fresh s)
 
-  abbrev supply : State → Supplied
+  abbrev pub supply : State → Supplied
   supply s = supplied plainly (view s)
 
   count-is : fresh .set .count ≡ length (voiceEntries k es)
@@ -168,7 +143,9 @@ module _ (k : Kind) (es : List PitchEntry) (rate : Float) (centres : List Float)
     -- band b of the voice is the machine's
     band-same : (b : ℕ) → b < bandCount k es → bandAt (fresh .lists) b ≡ getD (plainly .bands) b zeroCoeffs
     band-same b l =
-        fresh-band k es rate centres few (omega arith) b (omega arith) ∙ getD-padded 16 zeroCoeffs zeroCoeffs (plainly .bands) b (omega (arith, bands-length))
+        fresh-band k es rate centres few (omega arith) b (omega arith)
+        ∙ ap (λ (l : List BiquadCoeffs). getD (padded 16 zeroCoeffs l) b zeroCoeffs) (bands-for rate can centres)
+        ∙ getD-padded 16 zeroCoeffs zeroCoeffs (plainly .bands) b (omega (arith, bands-length))
 
     memories-same : (r : Rng) (ms : List Float) → length ms ≡ 32
         → upTo (memoryAt (movedMemories fresh r ms)) (bandCount k es) ≡ tick 0 (noiseIn r) (plainly .live) (plainly .bands) (upTo (memoryAt ms) (bandCount k es))
@@ -213,38 +190,13 @@ module _ (k : Kind) (es : List PitchEntry) (rate : Float) (centres : List Float)
     unfolding freshVoice
     view-first a = rw (take-replicate (quotient 0 1) (plainly .phases) 32 a, memories-first (bandCount k es) most, bands-length)
 
-    view-reseed : (s : State) (n : ℕ) → supply (reseededState s n) ≡ move plainly (view s) (seed n)
+    pub view-reseed : (s : State) (n : ℕ) → supply (reseededState s n) ≡ move plainly (view s) (seed n)
     unfolding freshVoice move
     view-reseed s n =
         ap (λ ms. supplied plainly (record { phases = take (plainly .phases) (s .phases); memories = ms; noise = newRng n .state }))
         (memories-first (bandCount k es) most ∙ ap (λ l. replicate l cleared) (sym bands-length))
 
     -- LAW: the fresh voice, whatever its running state, is played as it stands: of a single voice every band is in the list
-    ticking-fresh : (s : State) → ticking (withState fresh s) ≡ withState fresh s
+    pub ticking-fresh : (s : State) → ticking (withState fresh s) ≡ withState fresh s
     unfolding freshVoice
     ticking-fresh s = ap (λ t. voiceOf t (fresh .lists) (fresh .partials) (fresh .noise) s) (ticking-made k es rate centres)
-
-    -- LAW: one call
-    pub view-after : (m : Making) (s : State) (c : VoiceCall) → plainly .phases ≤ 32 → Sized s → keepsRules (withState fresh s) ≡ true
-        → supplied plainly (running (after (withState fresh s) c)) ≡ machineFrom (supply s) (fedBy m c)
-    unfolding after played resetOf reseedOf fedBy machineFrom move
-    view-after m s (playing p) a z h =
-        rw (← question-call (withState fresh s) (callOf p) (outLength p) h)
-        (view-accepted plainly (playQuestion (withState fresh s) (callOf p) (outLength p)) (withState fresh s) _ _
-        (rw (ticking-fresh s) (view-stateAt s (frequencyAt (callOf p) 0) (p .shape .samples) z)))
-    view-after m s resetting a z h = rw (question-none (withState fresh s) h) (ap (supplied plainly) (view-first a))
-    view-after m s (reseeding n) a z h = rw (question-none (withState fresh s) h) (view-reseed s n)
-
-    -- LAW: a list of calls
-    pub view-run : (m : Making) (cs : List VoiceCall) (s : State) → plainly .phases ≤ 32 → VoiceF32 fresh → Sized s → keepsRules (withState fresh s) ≡ true
-        → supplied plainly (running (run (withState fresh s) cs)) ≡ machineFrom (supply s) (fed m cs)
-    unfolding run fed machineFrom
-    view-run m [] s a W z h = refl
-    view-run m (c ∷ cs) s a W z h =
-        let v = withState fresh s in
-        let t = after v c .state in
-        let e : after v c ≡ withState fresh t = after-state v c in
-        ap (λ w. supplied plainly (running (run w cs))) e
-        ∙ view-run m cs t a W (after-sized v c z) (rw e at (rules-kept v c (with-32 fresh s W) h))
-        ∙ ap (λ y. machineFrom y (fed m cs)) (ap (λ w. supplied plainly (running w)) (sym e) ∙ view-after m s c a z h)
-        ∙ sym (machine-append (supply s) (fedBy m c) (fed m cs))

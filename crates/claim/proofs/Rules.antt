@@ -5,7 +5,7 @@ use mathlib.Core.Bool.{Bool, true, false, cond}
 use Prim.Native.Nat.{ℕ, zero, suc, _+_, _*_, _%_, _≤_, _<_}
 use native.Mathlib.Nat.{suc-add, add-suc, add-zero}
 use native.Mathlib.Omega.{arith}
-use lib.ListN.{getD, take, drop}
+use lib.ListN.{length, getD, take, drop}
 use lib.Dec.{T, eqb}
 use lib.Ieee.{Float, nan, binary32, lt, fits}
 use lib.Ieee.Fits.{round-fits, cond-fits}
@@ -18,7 +18,7 @@ use Rattle.player.specs.Phase.{advanceOf}
 use Rattle.player.specs.inner.Ranges.{Step}
 use Rattle.voice.specs.Lists.{mapTo, steps}
 use Rattle.voice.specs.Input.{Call, partOf, frequencyAt, frequencyOk, cleaned}
-use Rattle.voice.specs.Voice.{pitches, stretches, phaseOk, pitchOk, stretchOk, phasesOk, rulesOf, keepsRules, voiceOf, withState, firstState}
+use Rattle.voice.specs.Voice.{pitches, stretches, phaseOk, pitchOk, stretchOk, rateOk, phasesOk, rulesOf, keepsRules, voiceOf, withState, firstState}
 use Rattle.player.specs.Sound.{sidesAt, stretchAt, stepAt, movedPhases, moved}
 use Rattle.player.specs.Bands.{allLive, ticking}
 use Rattle.player.specs.Block.{stateAt, blockEnd}
@@ -26,15 +26,17 @@ use Rattle.player.specs.inner.Passes.{EntriesFit}
 use Rattle.voice.specs.Question.{ask, accepted, callQuestion, playQuestion}
 use Rattle.player.specs.Playing.{played}
 use Rattle.voice.specs.Restart.{resetOf, reseedOf, reseededState}
+use Rattle.voice.specs.Retuning.{retuned, rateQuestion, retuneOf}
 use Rattle.voice.specs.declared.voice.State.{State}
 use Rattle.voice.specs.declared.voice.Voice.{Voice}
 use Rattle.voice.proofs.Loops.{every-at, at-every}
-use Rattle.voice.proofs.QuestionLaws.{kept, call-accepted}
+use Rattle.voice.proofs.QuestionLaws.{ask-yes, kept, call-accepted}
+use Rattle.voice.proofs.RetuneLaws.{front-kept, length-kept, retuned-rules}
 use Rattle.player.proofs.BandLaws.{ticking-rules}
 use Rattle.player.proofs.PhaseLaws.{step-step}
 use Rattle.player.proofs.RangeLaws.{advance-ok, phase-passes}
 use Rattle.player.proofs.SoundLaws.{cleaned-within, voice-fits, frequencies-fit}
-use Rattle.claim.specs.Calls.{AllF32, PlayCall, callOf, outLength, VoiceCall, playing, resetting, reseeding, after, run}
+use Rattle.claim.specs.Calls.{AllF32, PlayCall, callOf, outLength, VoiceCall, playing, resetting, reseeding, retuning, after, run}
 use Rattle.claim.proofs.Sides.{between-stretch}
 
 -- a cleaned frequency is an f32 value
@@ -42,8 +44,9 @@ cleaned-fits : (f : Float) → T (fits binary32 f) → T (fits binary32 (cleaned
 unfolding cleaned
 cleaned-fits f F = cond-fits binary32 (finite f) _ _ (cond-fits binary32 (lt (quotient 0 1) f) _ _ F (round-fits binary32 false 0 1)) (round-fits binary32 false 0 1)
 
--- the pitches and stretches of a voice are f32 values
+-- the pitches and stretches of a voice are f32 values, and its short lists have all their places
 pub record VoiceF32 (v : Voice) : Type 0 where
+  pub places : length (v .lists) ≡ 176
   pub pitches32 : (i : ℕ) → i < v .set .count → T (fits binary32 (getD (pitches v) i nan))
   pub stretches32 : (i : ℕ) → i < v .set .count → T (fits binary32 (getD (stretches v) i nan))
 
@@ -57,7 +60,7 @@ phases-most v h = voice-fits v h .entries .sizes .1
 -- another running state, whose phases pass
 pub rules-with : (v : Voice) (s : State) → keepsRules v ≡ true → phasesOk (s .phases) (v .set .m) ≡ true → keepsRules (withState v s) ≡ true
 unfolding rulesOf
-rules-with v s h k = let a = kept v h in rw (a .counts, a .entries, a .rate, a .live) k
+rules-with v s h k = let a = kept v h in rw (a .counts, a .entries, a .rate, a .live, a .centres) k
 
 -- ---- one sample
 ok-mapTo : (f : ℕ → Float → Float) (k n i : ℕ) (l : List Float) → i < n → ((p : Float) → phaseOk p ≡ true → phaseOk (f (k + i) p) ≡ true)
@@ -154,12 +157,21 @@ ticking-32 : (v : Voice) → VoiceF32 v → VoiceF32 (ticking v)
 ticking-32 v W = cond-both (eqb (v .set .blend) 0)
   where
     cond-both : (b : Bool) → VoiceF32 (voiceOf (cond b (allLive (v .set)) (v .set)) (v .lists) (v .partials) (v .noise) (v .state))
-    cond-both true = record { pitches32 = W .pitches32; stretches32 = W .stretches32 }
+    cond-both true = record { places = W .places; pitches32 = W .pitches32; stretches32 = W .stretches32 }
     cond-both false = W
+
+-- with question 13 answered yes, question 11 is left of a retune
+pub question-rate : (v : Voice) (rate : Float) → keepsRules v ≡ true → ask (keepsRules v) 13 (rateQuestion rate) ≡ rateQuestion rate
+unfolding ask
+question-rate v rate h = rw h
+
+pub rate-yes : (rate : Float) → rateQuestion rate ≡ 0 → rateOk rate ≡ true
+unfolding rateQuestion
+rate-yes rate e = ask-yes (rateOk rate) 10 0 e .0
 
 -- LAW: a voice that keeps the rules keeps them after a call
 pub rules-kept : (v : Voice) (c : VoiceCall) → VoiceF32 v → keepsRules v ≡ true → keepsRules (after v c) ≡ true
-unfolding after played resetOf reseedOf
+unfolding after played resetOf reseedOf retuneOf
 rules-kept v (playing p) W h =
     let c = callOf p in
     accepted-rules (playQuestion v c (outLength p)) v (withState v (blockEnd (ticking v) c)) h
@@ -174,23 +186,33 @@ rules-kept v (playing p) W h =
 rules-kept v resetting W h = accepted-rules (ask (keepsRules v) 13 0) v (withState v firstState) h (λ e. rules-with v firstState h (phases-ok (v .set .m) (phases-most v h)))
 rules-kept v (reseeding n) W h =
     accepted-rules (ask (keepsRules v) 13 0) v (withState v (reseededState (v .state) n)) h (λ e. rules-with v (reseededState (v .state) n) h (phases-of v h))
+rules-kept v (retuning rate) W h =
+    accepted-rules (ask (keepsRules v) 13 (rateQuestion rate)) v (retuned v rate) h
+    (λ e. retuned-rules v rate (W .places) h (rate-yes rate (sym (question-rate v rate h) ∙ e)))
 
--- a call leaves all but the running state as it was
-accepted-state : (q : ℕ) (v : Voice) (s : State) → accepted q (withState v s) v ≡ withState v (accepted q (withState v s) v .state)
-accepted-state zero v s = refl
-accepted-state (suc q) v s = refl
-
-pub after-state : (v : Voice) (c : VoiceCall) → after v c ≡ withState v (after v c .state)
-unfolding after played resetOf reseedOf
-after-state v (playing p) = accepted-state (playQuestion v (callOf p) (outLength p)) v _
-after-state v resetting = accepted-state (ask (keepsRules v) 13 0) v _
-after-state v (reseeding n) = accepted-state (ask (keepsRules v) 13 0) v _
-
+-- what an accepted call leaves has f32 values too
 pub with-32 : (v : Voice) (s : State) → VoiceF32 v → VoiceF32 (withState v s)
-with-32 v s W = record { pitches32 = W .pitches32; stretches32 = W .stretches32 }
+with-32 v s W = record { places = W .places; pitches32 = W .pitches32; stretches32 = W .stretches32 }
 
-pub after-32 : (v : Voice) (c : VoiceCall) → VoiceF32 v → VoiceF32 (after v c)
-after-32 v c W = rw (after-state v c) (with-32 v (after v c .state) W)
+retuned-32 : (v : Voice) (rate : Float) → VoiceF32 v → VoiceF32 (retuned v rate)
+retuned-32 v rate W =
+    let j = v .set .j in
+    record {
+      places = length-kept (v .lists) (W .places) j rate;
+      pitches32 = λ i l. rw (front-kept (v .lists) (W .places) j rate 0 (omega arith)) (W .pitches32 i l);
+      stretches32 = λ i l. rw (front-kept (v .lists) (W .places) j rate 1 (omega arith)) (W .stretches32 i l);
+    }
+
+accepted-32 : (q : ℕ) (v w : Voice) → VoiceF32 v → VoiceF32 w → VoiceF32 (accepted q w v)
+accepted-32 zero v w given W = W
+accepted-32 (suc q) v w given W = given
+
+after-32 : (v : Voice) (c : VoiceCall) → VoiceF32 v → VoiceF32 (after v c)
+unfolding after played resetOf reseedOf retuneOf
+after-32 v (playing p) W = accepted-32 (playQuestion v (callOf p) (outLength p)) v _ W (with-32 v _ W)
+after-32 v resetting W = accepted-32 (ask (keepsRules v) 13 0) v _ W (with-32 v _ W)
+after-32 v (reseeding n) W = accepted-32 (ask (keepsRules v) 13 0) v _ W (with-32 v _ W)
+after-32 v (retuning rate) W = accepted-32 (ask (keepsRules v) 13 (rateQuestion rate)) v _ W (retuned-32 v rate W)
 
 -- LAW: and after any list of calls
 pub rules-kept-run : (v : Voice) (cs : List VoiceCall) → VoiceF32 v → keepsRules v ≡ true → keepsRules (run v cs) ≡ true
@@ -208,13 +230,19 @@ pub refused-same : (v : Voice) (p : PlayCall) → keepsRules v ≡ true → (cal
 unfolding after played
 refused-same v p h r = accepted-same (playQuestion v (callOf p) (outLength p)) v _ (λ e. r (sym (question-call v (callOf p) (outLength p) h) ∙ e))
 
+-- LAW: and so does a retune that question 11 refuses
+pub refused-rate-same : (v : Voice) (rate : Float) → keepsRules v ≡ true → (rateQuestion rate ≡ 0 → ⊥) → after v (retuning rate) ≡ v
+unfolding after retuneOf
+refused-rate-same v rate h r = accepted-same (ask (keepsRules v) 13 (rateQuestion rate)) v _ (λ e. r (sym (question-rate v rate h) ∙ e))
+
 question-13 : (v : Voice) (rest : ℕ) → keepsRules v ≡ false → ask (keepsRules v) 13 rest ≡ 0 → ⊥
 unfolding ask
 question-13 v rest h e = let z : _≡_ {A = ℕ} 13 0 = rw h at e in omega arith
 
 -- LAW: a voice that does not keep the rules is returned as given by every call
 pub bad-voice-same : (v : Voice) (c : VoiceCall) → keepsRules v ≡ false → after v c ≡ v
-unfolding after played resetOf reseedOf playQuestion
+unfolding after played resetOf reseedOf retuneOf playQuestion
 bad-voice-same v (playing p) h = accepted-same _ v _ (question-13 v _ h)
 bad-voice-same v resetting h = accepted-same _ v _ (question-13 v _ h)
 bad-voice-same v (reseeding n) h = accepted-same _ v _ (question-13 v _ h)
+bad-voice-same v (retuning rate) h = accepted-same _ v _ (question-13 v _ h)

@@ -1,5 +1,5 @@
--- The plain machine (document 01, module 6): phases, memories and the noise number, moved by frequencies, resets and seeds.
--- It takes entries, rate and band coefficients from a making's arguments, never from a voice. Single and blend share it.
+-- The plain machine (document 01, module 6): phases, memories and the noise number, moved by frequencies, resets, seeds and retunes.
+-- It takes entries, rate and band coefficients from the arguments of a making and of retunes, never from a voice. Both kinds share it.
 use Prim.Native.Nat.{ℕ, _+_}
 use mathlib.Core.List.{List, [], _∷_, map}
 use mathlib.Core.Bool.{Bool, false, _||_, cond}
@@ -21,6 +21,10 @@ use Rattle.player.specs.Bracket.{bracketOf, sidesOf, valueBetween}
 use Rattle.player.specs.Sound.{unitVariance}
 use Rattle.making.specs.Making.{f32, voiceEntries, channelCount, phaseCount, liveBands, Making}
 
+-- the coefficients of bands with these centres at a sample rate
+abbrev pub bandsFor : List Float → Float → List BiquadCoeffs
+bandsFor centres rate = map (λ c. noiseBand c rate) centres
+
 -- what the machine takes from the making: the voice's entries by their pitches and stretches, the rate, how many phases, the bands,
 -- and which of them are live
 pub record Plain : Type 0 where
@@ -37,12 +41,23 @@ plainFrom k es rate centres = record {
   stretches = map (λ e. f32 (e .stretch)) (voiceEntries k es);
   rate = rate;
   phases = phaseCount k (channelCount k es) es;
-  bands = map (λ c. noiseBand c rate) centres;
+  bands = bandsFor centres rate;
   live = liveBands k es (bandCount k es);
 }
 
 unfoldable pub plainOf : Making → Plain
 plainOf m = plainFrom (m .kind) (entriesOf (decode (m .image))) (m .rate) (m .centres)
+
+-- the same with another rate and other bands
+abbrev pub retunedTo : Float → List BiquadCoeffs → Plain → Plain
+retunedTo rate bands x = record {
+  pitches = x .pitches;
+  stretches = x .stretches;
+  rate = rate;
+  phases = x .phases;
+  bands = bands;
+  live = x .live;
+}
 
 -- exactly as many phases and memories as there are, and the noise number
 pub record Machine : Type 0 where
@@ -55,6 +70,7 @@ pub data Event : Type 0 where
   frequency : Float → Event
   reset : Event
   seed : ℕ → Event
+  retune : Float → List BiquadCoeffs → Event
 
 -- at first: all 0, and the noise number of the default seed
 abbrev pub startFrom : Plain → Machine
@@ -98,8 +114,8 @@ atFrequency (p ∷ ps) x f0 s = record {
   noise = noiseNext (x .live) (s .noise);
 }
 
--- a machine beside what it takes. The two stand together because an event may change either: the events of today leave the source as it is,
--- but a call that gives a voice another rate, or other entries, would be an event that answers another source.
+-- a machine beside what it takes. The two stand together because an event may change either: a retune leaves the state as it is and changes
+-- the rate and the bands; the other events leave what the machine takes as it is.
 pub record Supplied : Type 0 where
   pub source : Plain
   pub state : Machine
@@ -108,11 +124,12 @@ abbrev pub supplied : Plain → Machine → Supplied
 supplied x s = record { source = x; state = s }
 
 -- a frequency is cleaned first: non-finite, negative and -0 become 0. A reset zeroes phases and memories and returns to the default seed,
--- whatever was reseeded. A seed is taken, zeroes the memories and keeps the phases.
+-- whatever was reseeded; the rate stays. A seed is taken, zeroes the memories and keeps the phases. A retune's rate and bands are taken.
 unfoldable pub move : Plain → Machine → Event → Supplied
 move x s (frequency f) = supplied x (atFrequency (x .pitches) x (cleaned f) s)
 move x s reset = supplied x (startFrom x)
 move x s (seed n) = supplied x (record { phases = s .phases; memories = replicate (length (x .bands)) cleared; noise = newRng n .state })
+move x s (retune rate bands) = supplied (retunedTo rate bands x) s
 
 -- each event finds what the one before it left
 unfoldable pub machineFrom : Supplied → List Event → Supplied
