@@ -42,13 +42,13 @@ abbrev pub listsByte : ℕ
 listsByte = 72
 
 abbrev pub partialsByte : ℕ
-partialsByte = 712
+partialsByte = 776
 
 abbrev pub noiseByte : ℕ
-noiseByte = 8904
+noiseByte = 8968
 
 abbrev pub stateByte : ℕ
-stateByte = 13000
+stateByte = 13064
 
 -- a reference to a list of the voice
 abbrev pub listRef : ℕ → ℕ → GName → List Float → RefT (List Float)

@@ -5,6 +5,7 @@ pub mod images;
 mod kind;
 pub mod play_in;
 pub mod restart_in;
+pub mod retune_in;
 pub mod voices;
 
 pub use answer::Answer;

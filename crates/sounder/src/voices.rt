@@ -5,6 +5,7 @@ ghost use Rattle.filters.specs.Compensation.{noisePowerGain};
 ghost use Rattle.making.specs.Making.{making, makeOf};
 ghost use Rattle.making.specs.Answer.{makeRefusal};
 ghost use Rattle.voice.specs.Restart.{resetOf, reseedOf};
+ghost use Rattle.voice.specs.Retuning.{retuneOf};
 ghost use Rattle.sounder.specs.Answer.{refusalAnswer, kindOf};
 ghost use Rattle.sounder.specs.Voices.{madeAnswer};
 ghost use Rattle.player.specs.Playing.{Plays};
@@ -22,6 +23,7 @@ use voice::Shape;
 use voice::Voice;
 use voice::reseed;
 use voice::reset;
+use voice::retune;
 
 // The blank voice, all zero, where the making is refused.
 #[repr(C)]
@@ -120,6 +122,14 @@ pub extern "C" fn sounder_reseed(voice: Voice, seed: u32) -> Played
     ensures { λ r. ⌜ r ≡ reseedOf voice seed ⌝ }
 {
     reseed(voice, seed)
+}
+
+// Another sample rate: the rate, the bands and the compensations that `init` gives for the voice's own centres.
+#[no_mangle]
+pub extern "C" fn sounder_retune(voice: Voice, sample_rate: f32) -> Played
+    ensures { λ r. ⌜ r ≡ retuneOf voice «sample_rate» ⌝ }
+{
+    retune(voice, sample_rate)
 }
 
 // The power of white noise after a band, and how many times the band was rung for it.
