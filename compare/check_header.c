@@ -1,7 +1,8 @@
 /* include/sounder.h against the library: sizes and offsets, a read, a refusal, a rewriting, and voices of both kinds: what a making puts
- * into each field, and blocks played both ways beside stored samples. compare/try_headers compiles it, also against wrong headers; there
- * without the sizes and offsets (VALUES_ALONE), so that the values alone have to tell. */
+ * into each field, and blocks played and rates changed both ways, beside stored samples. compare/try_headers compiles it, also against
+ * wrong headers; there without the sizes and offsets (VALUES_ALONE), so that the values alone have to tell. */
 #include "sounder.h"
+#include <math.h>
 #include <stdio.h>
 #include <string.h>
 
@@ -33,7 +34,8 @@ SIZE(sounder_state, 260);
 AT(sounder_state, phases, 0);
 AT(sounder_state, memories, 128);
 AT(sounder_state, noise, 256);
-SIZE(sounder_voice, 13264);
+SIZE(sounder_voice, 13328);
+_Static_assert(SOUNDER_VOICE_BYTES == 13328, "SOUNDER_VOICE_BYTES");
 AT(sounder_voice, blend, 0);
 AT(sounder_voice, channel, 4);
 AT(sounder_voice, count, 8);
@@ -49,9 +51,10 @@ AT(sounder_voice, mainlobe_gain, 72 + 32 * 4);
 AT(sounder_voice, noise_gain, 72 + 48 * 4);
 AT(sounder_voice, bands, 72 + 64 * 4);
 AT(sounder_voice, compensation, 72 + 144 * 4);
-AT(sounder_voice, partials, 712);
-AT(sounder_voice, noise, 8904);
-AT(sounder_voice, state, 13000);
+AT(sounder_voice, centres, 72 + 160 * 4);
+AT(sounder_voice, partials, 776);
+AT(sounder_voice, noise, 8968);
+AT(sounder_voice, state, 13064);
 SIZE(sounder_shape, 56);
 AT(sounder_shape, samples, 0);
 AT(sounder_shape, channels, 8);
@@ -60,9 +63,9 @@ AT(sounder_shape, g0, 24);
 AT(sounder_shape, g1, 32);
 AT(sounder_shape, g2, 40);
 AT(sounder_shape, g3, 48);
-SIZE(sounder_made_answer, 24 + 13264);
+SIZE(sounder_made_answer, 24 + 13328);
 AT(sounder_made_answer, voice, 24);
-SIZE(sounder_played_answer, 8 + 13264);
+SIZE(sounder_played_answer, 8 + 13328);
 AT(sounder_played_answer, voice, 8);
 SIZE(sounder_noise_power, 8);
 AT(sounder_noise_power, power, 0);
@@ -191,7 +194,8 @@ static int same_voice(const struct sounder_voice *a, const struct sounder_voice 
            a->live_count == b->live_count && a->sample_rate == b->sample_rate && memcmp(a->live, b->live, sizeof a->live) == 0 &&
            same_floats(a->f0_hz, b->f0_hz, 16) && same_floats(a->stretch, b->stretch, 16) && same_floats(a->mainlobe_gain, b->mainlobe_gain, 16) &&
            same_floats(a->noise_gain, b->noise_gain, 16) && memcmp(a->bands, b->bands, sizeof a->bands) == 0 &&
-           same_floats(a->compensation, b->compensation, 16) && same_floats(a->partials, b->partials, 2048) && same_floats(a->noise, b->noise, 1024) &&
+           same_floats(a->compensation, b->compensation, 16) && same_floats(a->centres, b->centres, 16) &&
+           same_floats(a->partials, b->partials, 2048) && same_floats(a->noise, b->noise, 1024) &&
            same_floats(a->state.phases, b->state.phases, 32) && memcmp(a->state.memories, b->state.memories, sizeof a->state.memories) == 0 &&
            a->state.noise == b->state.noise;
 }
@@ -211,6 +215,7 @@ static void check_voice(const struct sounder_voice *v, uint32_t blend, uint32_t 
             }
         }
     }
+    expect(v->centres[0] == 500 && v->centres[1] == 3000 && v->centres[2] == 0 && v->centres[15] == 0, "centres");
     for (size_t b = 0; b < 2; b++) {
         struct sounder_noise_power power = sounder_noise_power_gain(b ? 3000 : 500, 1, 48000, v->bands[b]);
         float square = v->compensation[b] * v->compensation[b] * power.power;
@@ -259,6 +264,9 @@ static const uint32_t samples[2][16] = {
 
 /* after the block, in the same way: the second phase, and the second band's memories, which are those of both voices */
 static const uint32_t moved[3] = {0x3db56931, 0x3f04fe63, 0xbea0417a};
+
+/* the first sample of a block after that one at another rate: of each voice */
+static const uint32_t after_retune[2] = {0x3e7afd7e, 0x3e8be639};
 
 static void expect_bits(float x, uint32_t stored, const char *what, size_t i)
 {
@@ -313,6 +321,59 @@ static void check_block(const struct sounder_voice *fresh, const uint32_t *store
     expect(sounder_reset_in(&own) == 13 && sounder_reseed_in(&own, 1) == 13 && same_voice(&own, &before), "it stays as it is");
 }
 
+/* the same bytes, but for those that say nothing: after the live bands, and at the end */
+static int untouched(const struct sounder_voice *a, const struct sounder_voice *b)
+{
+    const size_t numbers = offsetof(struct sounder_voice, live) + sizeof a->live;
+    const size_t lists = offsetof(struct sounder_voice, state) - offsetof(struct sounder_voice, f0_hz);
+    return memcmp(a, b, numbers) == 0 && memcmp(a->f0_hz, b->f0_hz, lists) == 0 && memcmp(&a->state, &b->state, sizeof a->state) == 0;
+}
+
+/* a retune both ways is refused with the number, and changes nothing */
+static void check_refused(const struct sounder_voice *v, float rate, uint32_t number, const char *what)
+{
+    struct sounder_voice own = *v;
+    struct sounder_played_answer answer = sounder_retune(*v, rate);
+    expect(sounder_retune_in(&own, rate) == number && untouched(&own, v), what);
+    expect(answer.number == number && untouched(&answer.voice, v), what);
+}
+
+/* a voice that has played goes on at another rate: with the bands and compensations of one that is made at that rate, and its own state */
+static void check_retune(const struct sounder_voice *fresh, const struct sounder_voice *other, const uint32_t *stored)
+{
+    float out[16], heard[16];
+    struct sounder_voice own = *fresh;
+    expect(sounder_play_in(&own, shape, freq, 16, g0, 8, g1, 16, g2, 8, g3, 8, out, 16) == 0, "a block before a retune");
+    struct sounder_voice before = own, wanted = *other;
+    wanted.state = own.state;
+    struct sounder_played_answer answer = sounder_retune(own, 44100);
+    expect(answer.number == 0 && sounder_retune_in(&own, 44100) == 0, "a retune");
+    expect(same_voice(&own, &wanted) && same_voice(&answer.voice, &wanted), "it gives the rate, the bands and the compensations");
+    expect(own.sample_rate == 44100 && own.bands[0].b0 > before.bands[0].b0 && own.bands[1].a1 > before.bands[1].a1, "rate and bands");
+    expect(own.compensation[0] < before.compensation[0] && own.compensation[1] < before.compensation[1], "compensations");
+    expect(own.state.phases[1] > 0 && same_floats(own.state.phases, before.state.phases, 32), "the phases are kept");
+    expect(own.state.memories[1].z1 == before.state.memories[1].z1 && own.state.noise == before.state.noise, "memories and noise are kept");
+    check_refused(&own, 7999, 11, "a rate below 8,000");
+    check_refused(&own, 192001, 11, "a rate above 192,000");
+    check_refused(&own, -44100, 11, "a negative rate");
+    check_refused(&own, HUGE_VALF, 11, "an infinite rate");
+    check_refused(&own, HUGE_VALF - HUGE_VALF, 11, "a rate that is no number");
+    struct sounder_voice broken = own;
+    broken.centres[1] = HUGE_VALF;
+    check_refused(&broken, 48000, 13, "a centre that is not finite");
+    check_refused(&broken, 7999, 13, "that is asked before the rate");
+    expect(sounder_reset_in(&broken) == 13 && sounder_reseed(broken, 1).number == 13, "no call takes such a centre");
+    broken = before;
+    broken.centres[2] = broken.bands[2].a2 = broken.compensation[15] = HUGE_VALF;
+    expect(sounder_retune_in(&broken, 44100) == 0 && broken.centres[2] == HUGE_VALF, "a centre beyond the bands may be anything");
+    expect(broken.bands[2].a2 == 0 && broken.compensation[15] == 0, "coefficients and compensations beyond the bands become 0");
+    answer = sounder_play(answer.voice, shape, freq, 16, g0, 8, g1, 16, g2, 8, g3, 8, out, 16);
+    expect(answer.number == 0, "a block after a retune");
+    expect(sounder_play_in(&own, shape, freq, 16, g0, 8, g1, 16, g2, 8, g3, 8, heard, 16) == 0, "a block after a retune in place");
+    expect(memcmp(heard, out, sizeof out) == 0 && same_voice(&own, &answer.voice), "it is the same after both");
+    expect_bits(heard[0], *stored, "sample after a retune", 0);
+}
+
 static void check_voices(void)
 {
     const float centres[] = {500, 3000};
@@ -326,6 +387,10 @@ static void check_voices(void)
     check_voice(&blend.voice, 1, 0, 4);
     check_block(&single.voice, samples[0]);
     check_block(&blend.voice, samples[1]);
+    struct sounder_made_answer single_slow = sounder_make(0, 1, table, table_len, 44100, centres, 2);
+    struct sounder_made_answer blend_slow = sounder_make(1, 0, table, table_len, 44100, centres, 2);
+    check_retune(&single.voice, &single_slow.voice, &after_retune[0]);
+    check_retune(&blend.voice, &blend_slow.voice, &after_retune[1]);
 }
 
 int main(void)

@@ -26,7 +26,7 @@ extern "C" {
  *   8 more than 16 entries, 32 partials or 16 bands
  *   9 a pitch, stretch, coefficient or gain            first: the entry's index
  *  10 no entry has the channel
- *  11 the sample rate is not 8,000 to 192,000
+ *  11 the sample rate is not 8,000 to 192,000 (of a making, and of a retune)
  *  12 the centres are not as many as the bands, or not all finite
  *  13 the voice breaks the voice rules
  *  14 the output is not a block of 0 to 128 samples by 1 to 8 channels, or not samples * channels long
@@ -69,7 +69,7 @@ struct sounder_state {
 };
 
 /* A voice: everything that a tone is made of. Places that are not in use are 0 in a fresh voice. A play leaves them as given; a reset
- * writes all of the state, a reseed all memories and the noise number. */
+ * writes all of the state, a reseed all memories and the noise number, a retune all bands and compensations. */
 struct sounder_voice {
     uint32_t blend;    /* 0: a single voice of the channel below; else a blend */
     uint32_t channel;  /* a single voice's channel of the table */
@@ -87,10 +87,23 @@ struct sounder_voice {
     float noise_gain[16];
     struct sounder_biquad_coeffs bands[16];
     float compensation[16];
+    float centres[16];    /* the bands' centre frequencies as the making was given them; a retune makes the bands from them */
     float partials[2048]; /* entry * 128 + channel * 32 + partial */
     float noise[1024];    /* entry * 64 + channel * 16 + band */
     struct sounder_state state;
 };
+
+/* How large a voice is, with its centres, where pointers have 64 bits, as the library has them; a compiler that can check it does. It
+ * changes where a voice gets another field: then callers have to be compiled anew, and stored voices do not fit any more. */
+#define SOUNDER_VOICE_BYTES 13328
+
+#if defined(SIZE_MAX) && SIZE_MAX > 0xFFFFFFFF
+#if defined(__cplusplus) && __cplusplus >= 201103L
+static_assert(sizeof(struct sounder_voice) == SOUNDER_VOICE_BYTES, "struct sounder_voice has another size than the library's");
+#elif defined(__STDC_VERSION__) && __STDC_VERSION__ >= 201112L
+_Static_assert(sizeof(struct sounder_voice) == SOUNDER_VOICE_BYTES, "struct sounder_voice has another size than the library's");
+#endif
+#endif
 
 /* A block's numbers: how long and how wide the output is, and how many channels each input has, 0 for unconnected (the frequency is then
  * 220, gain 0 is 1, the others 0). */
@@ -153,7 +166,13 @@ uint32_t sounder_reset_in(struct sounder_voice *voice);
 /* The voice's noise starts from the seed and its memories become 0; its phases go on. Answers 0; or 13, and then changes nothing. */
 uint32_t sounder_reseed_in(struct sounder_voice *voice, uint32_t seed);
 
-/* The same three of a voice by value: the answer has the voice to go on with. Each copies some 13 KB in and out, which tells in short
+/* The voice goes on at another sample rate: its rate, and the coefficients and compensations of its bands, become those of a voice that is
+ * made at that rate with the same centres, and 0 beyond its bands. Phases, memories and noise number stay, and so does all else. Each band
+ * is rung anew, which takes most of the time of a making: the longer, the lower the centres and the higher the rate. Answers 0; or 13, or
+ * 11 for the rate, asked in this order, and then changes nothing. */
+uint32_t sounder_retune_in(struct sounder_voice *voice, float sample_rate);
+
+/* The same four of a voice by value: the answer has the voice to go on with. Each copies some 13 KB in and out, which tells in short
  * blocks. */
 struct sounder_played_answer sounder_play(struct sounder_voice voice, struct sounder_shape shape, const float *freq, size_t freq_len,
                                           const float *g0, size_t g0_len, const float *g1, size_t g1_len, const float *g2, size_t g2_len,
@@ -162,6 +181,8 @@ struct sounder_played_answer sounder_play(struct sounder_voice voice, struct sou
 struct sounder_played_answer sounder_reset(struct sounder_voice voice);
 
 struct sounder_played_answer sounder_reseed(struct sounder_voice voice, uint32_t seed);
+
+struct sounder_played_answer sounder_retune(struct sounder_voice voice, float sample_rate);
 
 /* How loud white noise comes out of a band at centre freq with quality q: the sum of the squares of an impulse's response. n, the samples
  * summed, is 25 * max(q * sample_rate / (pi * max(freq, 1)), 1), its whole part, held to 64 to 2,000,000, for every argument. The power is
