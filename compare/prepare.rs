@@ -1,6 +1,7 @@
-// prepare SRC SHIMS OUT [EDIT]: puts the original's files and the shims together in OUT, as a crate to compare with.
+// prepare SRC SHIMS OUT [EDIT DRIVER]: puts the original's files and the shims together in OUT, as a crate to compare with.
 // The original is copied unchanged but for the substitutions below, each counted. EDIT is a planted fault (see faults/): lines
-// `file: ..`, `old: ..`, `new: ..`, once or several times; each must be found exactly once.
+// `file: ..`, `old: ..`, `new: ..`, once or several times; each must be found exactly once. A file is the original's, or one of the
+// driver (`driver/..`), which gives document 01's answers where the original has none: DRIVER is the copy of it that is damaged.
 use std::{env, fs, path::Path, process::exit};
 
 struct Substitution {
@@ -85,8 +86,8 @@ fn main() {
     let fault = a.get(4).map_or(String::new(), |p| read(Path::new(p)));
     let lines = |k: &str| fault.lines().filter_map(|l| l.strip_prefix(k)).map(String::from).collect::<Vec<_>>();
     let (files, olds, news) = (lines("file: "), lines("old: "), lines("new: "));
-    if files.len() != olds.len() || olds.len() != news.len() || a.len() > 4 && files.is_empty() || files.iter().any(|f| !COPIED.contains(&f.as_str()))
-    {
+    let known = |f: &String| COPIED.contains(&f.as_str()) || f.starts_with("driver/");
+    if files.len() != olds.len() || olds.len() != news.len() || a.len() > 4 && files.is_empty() || !files.iter().all(known) {
         eprintln!("prepare: {}: not a planted fault", a[4]);
         exit(1)
     }
@@ -103,6 +104,12 @@ fn main() {
             text += &read(&shims.join(name));
         }
         fs::write(out.join(file), text).unwrap();
+    }
+    for i in 0..files.len() {
+        if let Some(file) = files[i].strip_prefix("driver/") {
+            let path = Path::new(&a[5]).join(file);
+            fs::write(&path, replace(&read(&path), file, 1, &olds[i], &news[i])).unwrap();
+        }
     }
     for (from, to) in SHIMS {
         fs::write(out.join(to), read(&shims.join(from))).unwrap();

@@ -85,13 +85,14 @@ mod voices {
         pub noise_gain: [f32; 16],
         pub bands: [[f32; 5]; 16],
         pub compensation: [f32; 16],
+        pub centres: [f32; 16],
         pub partials: [f32; 2048],
         pub noise: [f32; 1024],
         pub state: State,
         pub rest: u32,
     }
 
-    pub const SIZE: usize = 13264;
+    pub const SIZE: usize = 13328;
     const _: () = assert!(size_of::<Voice>() == SIZE);
 
     #[repr(C)]
@@ -168,8 +169,10 @@ mod voices {
             ) -> u32;
             pub fn sounder_reset(voice: Voice) -> PlayedAnswer;
             pub fn sounder_reseed(voice: Voice, seed: u32) -> PlayedAnswer;
+            pub fn sounder_retune(voice: Voice, rate: f32) -> PlayedAnswer;
             pub fn sounder_reset_in(voice: *mut Voice) -> u32;
             pub fn sounder_reseed_in(voice: *mut Voice, seed: u32) -> u32;
+            pub fn sounder_retune_in(voice: *mut Voice, rate: f32) -> u32;
             pub fn sounder_noise_power_gain(freq: f32, q: f32, rate: f32, coeffs: Coeffs) -> NoisePower;
         }
     }
@@ -212,12 +215,20 @@ mod voices {
         unsafe { c::sounder_reseed(*v, seed) }
     }
 
+    pub fn retune(v: &Voice, rate: f32) -> PlayedAnswer {
+        unsafe { c::sounder_retune(*v, rate) }
+    }
+
     pub fn reset_in(v: &mut Voice) -> u32 {
         unsafe { c::sounder_reset_in(v) }
     }
 
     pub fn reseed_in(v: &mut Voice, seed: u32) -> u32 {
         unsafe { c::sounder_reseed_in(v, seed) }
+    }
+
+    pub fn retune_in(v: &mut Voice, rate: f32) -> u32 {
+        unsafe { c::sounder_retune_in(v, rate) }
     }
 
     pub fn noise_power_gain(freq: f32, q: f32, rate: f32, coeffs: [f32; 5]) -> NoisePower {

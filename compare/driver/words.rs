@@ -6,7 +6,7 @@ use std::collections::BTreeSet;
 #[derive(Default)]
 pub struct Words {
     pub bytes: Vec<u8>,
-    expected: Vec<(&'static str, usize)>,
+    expected: Vec<(String, usize)>,
 }
 
 impl Words {
@@ -25,15 +25,15 @@ impl Words {
         l.iter().for_each(|&x| self.f(x));
     }
     // What follows is an expected answer.
-    pub fn expect(&mut self, what: &'static str) {
-        self.expected.push((what, self.bytes.len()));
+    pub fn expect(&mut self, what: &str) {
+        self.expected.push((what.to_string(), self.bytes.len()));
     }
     pub fn append(&mut self, other: Words) {
         let at = self.bytes.len();
-        self.expected.extend(other.expected.iter().map(|e| (e.0, at + e.1)));
+        self.expected.extend(other.expected.into_iter().map(|e| (e.0, at + e.1)));
         self.bytes.extend(other.bytes);
     }
-    pub fn answer(&mut self, what: [&'static str; 3], a: (u32, usize, usize)) {
+    pub fn answer(&mut self, what: [&str; 3], a: (u32, usize, usize)) {
         for (what, v) in what.iter().zip([a.0 as usize, a.1, a.2]) {
             self.expect(what);
             self.n(v);
@@ -51,7 +51,7 @@ fn list(records: &[Vec<u8>]) -> Vec<u8> {
 // One record for each kind of answer, the shortest that has it, with the lowest bit of that answer wrong. Where the number of an answer is wrong, it is a refusal's:
 // what a record holds goes by whether a call is refused. No NaN is damaged: it would be another.
 fn damaged(records: &[Words]) -> Vec<Vec<u8>> {
-    let names: BTreeSet<&str> = records.iter().flat_map(|r| r.expected.iter().map(|e| e.0)).collect();
+    let names: BTreeSet<&str> = records.iter().flat_map(|r| r.expected.iter().map(|e| e.0.as_str())).collect();
     let fits = |r: &Words, name: &str, at: usize| {
         let v = r.bytes[at..].iter().take(4).rev().fold(0u32, |v, &b| v << 8 | b as u32);
         v & 0x7FFFFFFF <= 0x7F800000 && (!name.ends_with("number") || name.ends_with("noise number") || v > 1)

@@ -15,6 +15,11 @@ impl PartialsNoise {
                     ([e.f0_hz, e.stretch, e.mainlobe_gain, e.noise_gain], alloc::vec![e.partial_coeffs.clone()], alloc::vec![e.noise_coeffs.clone()])
                 })
                 .collect(),
+        }
+    }
+    pub fn init_gave(&self) -> crate::shim::InitGave {
+        crate::shim::InitGave {
+            rate: self.sample_rate,
             bands: self.noise_biquad.iter().map(|b| [b.0, b.1, b.2, b.3, b.4]).collect(),
             compensation: self.noise_power_compensation.clone(),
         }

@@ -14,6 +14,11 @@ impl PartialsBlend {
                 .iter()
                 .map(|e| ([e.f0_hz, e.stretch, e.mainlobe_gain, e.noise_gain], rows(&e.partials, self.m_max), rows(&e.noise, self.j_max)))
                 .collect(),
+        }
+    }
+    pub fn init_gave(&self) -> crate::shim::InitGave {
+        crate::shim::InitGave {
+            rate: self.sample_rate,
             bands: self.noise_biquad.iter().map(|b| [b.0, b.1, b.2, b.3, b.4]).collect(),
             compensation: self.noise_power_compensation.clone(),
         }

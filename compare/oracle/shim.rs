@@ -112,6 +112,12 @@ pub struct Inside {
     pub live: Vec<usize>,
     // pitch, stretch, mainlobe gain, noise gain; rows of partials and of bands, channel after channel
     pub entries: Vec<([f32; 4], Vec<Vec<f32>>, Vec<Vec<f32>>)>,
+}
+
+// What `init` gives it: the rate, and the coefficients and the compensation of each band.
+#[derive(Clone, Debug)]
+pub struct InitGave {
+    pub rate: f32,
     pub bands: Vec<[f32; 5]>,
     pub compensation: Vec<f32>,
 }

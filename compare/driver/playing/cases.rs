@@ -4,6 +4,9 @@ use super::*;
 pub fn any_entry(r: &mut Rand, big: bool, wild: bool) -> Entry {
     let size = |r: &mut Rand, most: usize| if big { r.below(most + 1) } else { r.below(5) };
     let (mut m, mut j) = (size(r, 32), size(r, 16) as u32);
+    if r.chance(15) {
+        j = r.below(17) as u32;
+    }
     let k = r.pick(&[1, 1, 1, 2, 2, 3, 4, 4, 0, 5]);
     if wild && r.chance(10) {
         m = r.pick(&[32, 33]);
@@ -118,8 +121,18 @@ pub fn any_play(r: &mut Rand) -> Play {
     Play { samples, freq, gains, channels, out_len }
 }
 
+// A rate that fits: a limit, a common one, or any other.
+pub fn fit_rate(r: &mut Rand) -> f32 {
+    r.among(&[8000.0, 192000.0, 44100.0, 48000.0], 8000.0, 192000.0)
+}
+
+// What no rate may be: a float outside each limit, and what is far from any rate.
+pub fn unfit_rate(r: &mut Rand) -> f32 {
+    r.pick(&[7999.9995, 192000.02, f32::NAN, f32::INFINITY, f32::NEG_INFINITY, 0.0, -0.0, -44100.0, 1e-45, f32::MAX])
+}
+
 pub fn any_call(r: &mut Rand, v: (usize, usize)) -> Call {
-    match r.below(20) {
+    match r.below(24) {
         0 | 1 => Call::Reset,
         2 | 3 => Call::Reseed(r.pick(&[0, 1, 0x9A271E55, u32::MAX, 12345])),
         4 => Call::Touch(Running {
@@ -128,8 +141,20 @@ pub fn any_call(r: &mut Rand, v: (usize, usize)) -> Call {
             noise: r.next() as u32,
         }),
         5 => Call::Broken(r.below(BREAKS), any_play(r)),
+        6 => Call::Spare(if r.chance(50) { r.pick(&ODD) } else { r.next() as u32 }),
+        7..=9 => Call::Retune(if r.chance(25) { unfit_rate(r) } else { fit_rate(r) }),
         _ => Call::Play(any_play(r)),
     }
+}
+
+// Two calls of a list become retunes, at the first of which the rate goes down, so that centres are held to it, and at the second up again.
+pub fn down_and_up(r: &mut Rand, calls: &mut [Call]) {
+    if calls.len() < 2 {
+        return;
+    }
+    let up = 1 + r.below(calls.len() - 1);
+    calls[r.below(up)] = Call::Retune(r.among(&[8000.0, 11025.0], 8000.0, 16000.0));
+    calls[up] = Call::Retune(r.among(&[44100.0, 48000.0, 192000.0], 32000.0, 192000.0));
 }
 
 // A case with a list of fewer than twelve calls.
@@ -144,7 +169,7 @@ pub fn case_of(r: &mut Rand, calls: impl FnOnce(&mut Rand) -> usize) -> Case {
     let channel = r.pick(&[0, 0, 0, 1, 2, 4, u32::MAX]);
     let mut rate = r.among(&[8000.0, 11025.0, 44100.0, 44100.0, 48000.0, 96000.0, 192000.0], 8000.0, 192000.0);
     if r.chance(3) {
-        rate = r.pick(&[7999.9995, 192000.02, f32::NAN, f32::INFINITY, 0.0, -44100.0]);
+        rate = unfit_rate(r);
     }
     let read = shim::read(&table.bytes());
     let (j, m) = read.map_or((0, 0), |t| {
@@ -165,6 +190,9 @@ pub fn case_of(r: &mut Rand, calls: impl FnOnce(&mut Rand) -> usize) -> Case {
     } else if r.chance(1) {
         centres.pop();
     }
-    let calls = (0..calls(r)).map(|_| any_call(r, (m, j))).collect();
+    let mut calls: Vec<Call> = (0..calls(r)).map(|_| any_call(r, (m, j))).collect();
+    if r.chance(30) {
+        down_and_up(r, &mut calls);
+    }
     Case { kind, channel, table, rate, centres, calls }
 }

@@ -42,13 +42,14 @@ pub fn padded(l: impl Iterator<Item = f32>, n: usize) -> Vec<f32> {
     v
 }
 
-// The fresh voice against what the original holds.
-pub fn fresh(v: &Voice, i: &Inside, kind: u32, channel: u32, rate: f32) -> Result<(), String> {
-    numbers("kind", (v.blend, v.channel), if kind == 0 { (0, channel) } else { (1, 0) })?;
+// The fresh voice of a case against what the original holds; the centres are those that the making was given.
+pub fn fresh(v: &Voice, p: &Theirs, c: &Case) -> Result<(), String> {
+    let i = p.inside();
+    numbers("kind", (v.blend, v.channel), if c.kind == 0 { (0, c.channel) } else { (1, 0) })?;
     numbers("counts", (v.count, v.k, v.m, v.j), (i.entries.len(), i.k, i.m, i.j))?;
     numbers("live bands", v.live[..v.live_count.min(16)].iter().map(|&b| b as usize).collect::<Vec<_>>(), i.live.clone())?;
     numbers("unused live bands", v.live[i.live.len()..].iter().any(|&b| b != 0), false)?;
-    floats("rate", &[v.sample_rate], &[rate])?;
+    floats("rate given", &[v.sample_rate], &[c.rate])?;
     for (what, ours, at) in
         [("pitches", &v.f0_hz, 0), ("stretches", &v.stretch, 1), ("mainlobe gains", &v.mainlobe_gain, 2), ("noise gains", &v.noise_gain, 3)]
     {
@@ -64,11 +65,35 @@ pub fn fresh(v: &Voice, i: &Inside, kind: u32, channel: u32, rate: f32) -> Resul
             noise[n * 64 + c * 16..][..row.len()].copy_from_slice(row);
         }
     }
-    let ours: Vec<f32> = v.partials.iter().enumerate().map(|(x, &p)| if kind != 0 && x % 32 >= i.m && p == 0.0 { 0.0 } else { p }).collect();
+    let dropped = |x: usize, p: f32| c.kind != 0 && x % 32 >= i.m && p == 0.0;
+    let ours: Vec<f32> = v.partials.iter().enumerate().map(|(x, &p)| if dropped(x, p) { 0.0 } else { p }).collect();
     floats("partials", &ours, &partials)?;
     floats("noise", &v.noise, &noise)?;
-    floats("band coefficients", &v.bands.concat(), &padded(i.bands.concat().into_iter(), 80))?;
-    floats("compensations", &v.compensation, &padded(i.compensation.iter().copied(), 16))
+    floats("centres", &v.centres, &padded(c.centres.iter().copied(), 16))?;
+    as_init_gave(v, &p.init_gave())?;
+    unused_bands(v)
+}
+
+// The rate, and the coefficients and the compensation of each band, against what the original's `init` gave last.
+pub fn as_init_gave(v: &Voice, t: &InitGave) -> Result<(), String> {
+    let j = t.bands.len();
+    floats("rate", &[v.sample_rate], &[t.rate])?;
+    floats("band coefficients", &v.bands[..j].concat(), &t.bands.concat())?;
+    floats("compensations", &v.compensation[..j], &t.compensation)
+}
+
+// A making and a retune leave 0 where the voice has no band.
+pub fn unused_bands(v: &Voice) -> Result<(), String> {
+    floats("coefficients beyond the bands", &v.bands[v.j..].concat(), &[0.0; 80][v.j * 5..])?;
+    floats("compensations beyond the bands", &v.compensation[v.j..], &[0.0; 16][v.j..])
+}
+
+// The places beyond the voice's bands filled, each with another float.
+pub fn spared(v: &Voice, bits: u32) -> Voice {
+    let (mut w, j) = (*v, v.j);
+    let places = w.bands[j..].iter_mut().flatten().chain(&mut w.compensation[j..]).chain(&mut w.centres[j..]);
+    places.zip(0..).for_each(|(x, i)| *x = f32::from_bits(bits.wrapping_add(i)));
+    w
 }
 
 // The running state against the original's; what is not in use must be as it was.
@@ -116,7 +141,7 @@ pub fn our_play(v: &Voice, p: &Play, out: &mut [f32]) -> Result<ffi::PlayedAnswe
     Ok(got)
 }
 
-// A reset or a reseed both ways: by value, and of the voice where it lies.
+// A reset, a reseed or a retune both ways: by value, and of the voice where it lies.
 fn both_ways(what: &str, v: &Voice, got: ffi::PlayedAnswer, in_place: impl Fn(&mut Voice) -> u32) -> Result<ffi::PlayedAnswer, String> {
     let mut own = *v;
     numbers(&format!("number of a {what} in place"), in_place(&mut own), got.number)?;
@@ -132,6 +157,10 @@ pub fn our_reset(v: &Voice) -> Result<ffi::PlayedAnswer, String> {
 
 pub fn our_reseed(v: &Voice, seed: u32) -> Result<ffi::PlayedAnswer, String> {
     both_ways("reseed", v, ffi::reseed(v, seed), |own| ffi::reseed_in(own, seed))
+}
+
+pub fn our_retune(v: &Voice, rate: f32) -> Result<ffi::PlayedAnswer, String> {
+    both_ways("retune", v, ffi::retune(v, rate), |own| ffi::retune_in(own, rate))
 }
 
 // A single voice plays all its bands, whatever its list of live bands says, and takes no notice of k.
@@ -177,12 +206,19 @@ pub fn broken(v: &Voice, which: usize) -> Voice {
             b.live_count = 2;
             b.live[1] = b.live[0];
         }
+        23 => b.centres[v.j.max(1) - 1] = f32::NAN,
+        24 => b.centres[0] = f32::INFINITY,
+        25 => b.centres[v.j / 2] = f32::NEG_INFINITY,
+        26 => (b.j, b.centres[15]) = (16, f32::NAN),
         _ => b.sample_rate = f32::INFINITY,
     }
     b
 }
 
-pub const BREAKS: usize = 24;
+pub const BREAKS: usize = 28;
+
+// The rates that a broken voice is retuned to: one that fits, and one that does not, which nothing asks about.
+pub const BROKEN_RATES: [f32; 2] = [48000.0, 7999.9995];
 
 // What an output holds before a play: every place another, NaNs with a payload among them.
 pub fn filling(n: usize) -> Vec<f32> {
@@ -206,7 +242,7 @@ pub fn refusal(what: &str, number: u32, got: &ffi::PlayedAnswer, given: &Voice) 
     Ok(())
 }
 
-pub fn check_call(v: &mut Voice, p: &mut Theirs, call: &Call, rate: f32, tally: &mut Tally) -> Result<(), String> {
+pub fn check_call(v: &mut Voice, p: &mut Theirs, call: &Call, tally: &mut Tally) -> Result<(), String> {
     tally.calls += 1;
     let given = *v;
     match call {
@@ -222,7 +258,7 @@ pub fn check_call(v: &mut Voice, p: &mut Theirs, call: &Call, rate: f32, tally: 
             }
             numbers("play's number", got.number, 0)?;
             tally.samples += out.len() as u64;
-            floats("samples", &out, &their_play(p, c, rate))?;
+            floats("samples", &out, &their_play(p, c, given.sample_rate))?;
             *v = got.voice;
         }
         Call::Reset => {
@@ -237,6 +273,22 @@ pub fn check_call(v: &mut Voice, p: &mut Theirs, call: &Call, rate: f32, tally: 
             numbers("reseed's number", got.number, 0)?;
             *v = got.voice;
         }
+        Call::Retune(rate) => {
+            let q = their_retune(p, v, *rate);
+            tally.number(q);
+            let got = our_retune(v, *rate)?;
+            if q != 0 {
+                tally.paper += 1;
+                return refusal("retune", q, &got, v);
+            }
+            numbers("retune's number", got.number, 0)?;
+            *v = got.voice;
+            kept(v, &given)?;
+            unused_bands(v)?;
+            as_init_gave(v, &p.init_gave())?;
+            return running(&v.state, &given.state, &p.running());
+        }
+        Call::Spare(bits) => *v = spared(v, *bits),
         Call::Touch(r) => {
             v.state.phases[..r.phases.len()].copy_from_slice(&r.phases);
             v.state.memories.iter_mut().zip(&r.memories).for_each(|(z, m)| *z = [m.0, m.1]);
@@ -246,7 +298,7 @@ pub fn check_call(v: &mut Voice, p: &mut Theirs, call: &Call, rate: f32, tally: 
         Call::Broken(which, c) => {
             let b = broken(v, *which);
             if keeps_rules(&b) {
-                return Ok(());
+                return nearly_broken(&b);
             }
             tally.number(13);
             tally.paper += 1;
@@ -254,14 +306,35 @@ pub fn check_call(v: &mut Voice, p: &mut Theirs, call: &Call, rate: f32, tally: 
             refusal("play of a broken voice", 13, &our_play(&b, c, &mut out)?, &b)?;
             unwritten(&out)?;
             refusal("reset of a broken voice", 13, &our_reset(&b)?, &b)?;
+            for rate in BROKEN_RATES {
+                refusal("retune of a broken voice", retune_question(&b, rate), &our_retune(&b, rate)?, &b)?;
+            }
             return refusal("reseed of a broken voice", 13, &our_reseed(&b, 7)?, &b);
         }
     }
-    if bytes(v)[..STATE] != bytes(&given)[..STATE] {
+    if !matches!(call, Call::Spare(_)) && bytes(v)[..STATE] != bytes(&given)[..STATE] {
         return Err(format!("{call:?} changes more than the running state"));
     }
+    as_init_gave(v, &p.init_gave())?;
     // a reset zeroes the unused places too, which are 0 from the start; a reseed zeroes memories
     running(&v.state, &given.state, &p.running())
+}
+
+// A voice that keeps the rules all the same, as one with an odd centre where it has no band: it is not refused.
+fn nearly_broken(v: &Voice) -> Result<(), String> {
+    numbers("number of a reset of a voice that keeps the rules", our_reset(v)?.number, 0)?;
+    let got = our_retune(v, BROKEN_RATES[0])?;
+    numbers("number of a retune of a voice that keeps the rules", got.number, 0)?;
+    kept(&got.voice, v)
+}
+
+// What a retune leaves, bit for bit: all but the rate, the bands' coefficients and the compensations.
+fn kept(v: &Voice, given: &Voice) -> Result<(), String> {
+    let before = Voice { sample_rate: given.sample_rate, bands: given.bands, compensation: given.compensation, ..*v };
+    if bytes(&before) != bytes(given) {
+        return Err("a retune changes more than the rate, the bands' coefficients and the compensations".into());
+    }
+    Ok(())
 }
 
 pub fn check(c: &Case, tally: &mut Tally) -> Result<(), String> {
@@ -285,7 +358,7 @@ pub fn check(c: &Case, tally: &mut Tally) -> Result<(), String> {
     let t = Arc::new(read.unwrap());
     let (mut p, rung) = made(&t, c.kind, c.channel, c.rate, &c.centres).ok_or("the original makes no voice of the channel")?;
     let mut v = got.voice;
-    fresh(&v, &p.inside(), c.kind, c.channel, c.rate)?;
+    fresh(&v, &p, c)?;
     let zero = State { phases: [0.0; 32], memories: [[0.0; 2]; 16], noise: 0 };
     running(&v.state, &zero, &p.running())?;
     for (b, raw) in c.centres.iter().enumerate() {
@@ -298,7 +371,7 @@ pub fn check(c: &Case, tally: &mut Tally) -> Result<(), String> {
         return Err("a fresh voice breaks the voice rules".into());
     }
     for (i, call) in c.calls.iter().enumerate() {
-        check_call(&mut v, &mut p, call, c.rate, tally).map_err(|e| format!("call {i}: {e}"))?;
+        check_call(&mut v, &mut p, call, tally).map_err(|e| format!("call {i}: {e}"))?;
     }
     Ok(())
 }

@@ -3,8 +3,8 @@
 // as changes of the voice that is all zero. Of an accepted making then: ring count and noise power of each band; the count of calls, and each call:
 //   changes of the voice before it (which the list goes on without where the call is refused);
 //   0 and a play (samples; frequency and four gains, each with channels, count and bits; channels; length of the output),
-//   or 1 for a reset, or 2 and a seed;
-//   the number; of an accepted call the running state as changes, and of an accepted play then the output.
+//   or 1 for a reset, or 2 and a seed, or 3 and the rate of a retune;
+//   the number; of an accepted call the running state as changes, with all else that it changes, and of an accepted play then the output.
 // Changes: a count, and for each a place (field × 65536 + index) and what stands there. The fields are numbered in the order of
 // `places`, which is this list's own: a voice has them in another.
 use super::*;
@@ -46,11 +46,24 @@ fn places(v: &Voice) -> Vec<(&'static str, usize, u32)> {
         put(name, &bits(&v.state.memories.map(|z| z[i])));
     }
     put("noise number", &[v.state.noise]);
+    put("centres", &bits(&v.centres));
     l
 }
 
-// The changes from one voice to another; all of a running state where `state` is there (m phases, j pairs of memories, noise number).
-fn changes(w: &mut Words, from: &Voice, to: &Voice, state: bool, expected: bool) {
+// Whose answer a change is.
+#[derive(Clone, Copy, PartialEq)]
+enum Whose {
+    // nobody's: it is made before a call
+    Given,
+    Making,
+    Retune,
+    // a play's, a reset's or a reseed's
+    Call,
+}
+
+// The changes from one voice to another; of a call's answer all of the running state (m phases, j pairs of memories, noise number).
+fn changes(w: &mut Words, from: &Voice, to: &Voice, whose: Whose) {
+    let state = whose == Whose::Call || whose == Whose::Retune;
     let used = |place: usize| match place >> 16 {
         21 => (place & 0xFFFF) < to.m,
         22 | 23 => (place & 0xFFFF) < to.j,
@@ -60,8 +73,10 @@ fn changes(w: &mut Words, from: &Voice, to: &Voice, state: bool, expected: bool)
     w.n(l.len());
     for (name, place, bits) in l {
         w.n(place);
-        if expected {
-            w.expect(name);
+        match whose {
+            Whose::Given => {}
+            Whose::Making | Whose::Call => w.expect(name),
+            Whose::Retune => w.expect(&format!("the retune's {name}")),
         }
         w.n(bits as usize);
     }
@@ -75,16 +90,23 @@ fn blank() -> Voice {
 fn voice_of(p: &Theirs, c: &Case) -> Voice {
     let (i, mut v) = (p.inside(), blank());
     (v.blend, v.channel) = if c.kind == 0 { (0, c.channel) } else { (1, 0) };
-    (v.count, v.k, v.m, v.j, v.live_count, v.sample_rate) = (i.entries.len(), i.k, i.m, i.j, i.live.len(), c.rate);
+    (v.count, v.k, v.m, v.j, v.live_count) = (i.entries.len(), i.k, i.m, i.j, i.live.len());
     v.live.iter_mut().zip(&i.live).for_each(|(to, &b)| *to = b as u8);
     for (n, e) in i.entries.iter().enumerate() {
         [v.f0_hz[n], v.stretch[n], v.mainlobe_gain[n], v.noise_gain[n]] = e.0;
         e.1.iter().enumerate().for_each(|(c, row)| v.partials[n * 128 + c * 32..][..row.len()].copy_from_slice(row));
         e.2.iter().enumerate().for_each(|(c, row)| v.noise[n * 64 + c * 16..][..row.len()].copy_from_slice(row));
     }
-    v.bands[..i.j].copy_from_slice(&i.bands);
-    v.compensation[..i.j].copy_from_slice(&i.compensation);
-    run_to(&v, &p.running())
+    v.centres[..i.j].copy_from_slice(&c.centres);
+    run_to(&with_init(&v, &p.init_gave()), &p.running())
+}
+
+// The voice with the rate, the bands and the compensations that the original's `init` gave; 0 beyond the bands.
+fn with_init(v: &Voice, t: &InitGave) -> Voice {
+    let mut v = Voice { sample_rate: t.rate, bands: [[0.0; 5]; 16], compensation: [0.0; 16], ..*v };
+    v.bands[..t.bands.len()].copy_from_slice(&t.bands);
+    v.compensation[..t.bands.len()].copy_from_slice(&t.compensation);
+    v
 }
 
 fn run_to(v: &Voice, r: &Running) -> Voice {
@@ -106,6 +128,11 @@ fn play_words(w: &mut Words, play: &Play) {
     w.n(play.out_len);
 }
 
+fn retune_words(w: &mut Words, rate: f32) {
+    w.n(3);
+    w.f(rate);
+}
+
 // A call that is refused.
 fn refused(w: &mut Words, what: &'static str, number: u32, numbers: &mut [usize; 18]) {
     w.expect(what);
@@ -113,38 +140,55 @@ fn refused(w: &mut Words, what: &'static str, number: u32, numbers: &mut [usize;
     numbers[number as usize] += 1;
 }
 
+// A call of each kind on a voice that breaks a rule, and a retune to each of two rates; answers how many were written.
+fn broken_calls(w: &mut Words, v: &Voice, b: &Voice, play: &Play, numbers: &mut [usize; 18]) -> usize {
+    if keeps_rules(b) {
+        return 0;
+    }
+    changes(w, v, b, Whose::Given);
+    play_words(w, play);
+    refused(w, "the play's number", 13, numbers);
+    changes(w, v, b, Whose::Given);
+    w.n(1);
+    refused(w, "the reset's number", 13, numbers);
+    changes(w, v, b, Whose::Given);
+    w.n(2);
+    w.n(7);
+    refused(w, "the reseed's number", 13, numbers);
+    for rate in BROKEN_RATES {
+        changes(w, v, b, Whose::Given);
+        retune_words(w, rate);
+        refused(w, "the retune's number", retune_question(b, rate), numbers);
+    }
+    3 + BROKEN_RATES.len()
+}
+
 // The calls of the case one by one; answers how many were written.
 fn calls(w: &mut Words, c: &Case, p: &mut Theirs, numbers: &mut [usize; 18]) -> usize {
     let mut v = voice_of(p, c);
-    // a running state that both sides are given before the next accepted call
+    // the voice with what is changed before the next accepted call, and the running state that the original is then given too
+    let mut given = v;
     let mut touched: Option<Running> = None;
     let mut n = 0;
     for call in &c.calls {
-        let given = touched.as_ref().map_or(v, |r| run_to(&v, r));
-        if let Call::Touch(r) = call {
-            touched = Some(r.clone());
-            continue;
-        }
-        if let Call::Broken(which, play) = call {
-            let b = broken(&v, *which);
-            if keeps_rules(&b) {
+        match call {
+            Call::Touch(r) => {
+                given = run_to(&given, r);
+                touched = Some(r.clone());
                 continue;
             }
-            changes(w, &v, &b, false, false);
-            play_words(w, play);
-            refused(w, "the play's number", 13, numbers);
-            changes(w, &v, &b, false, false);
-            w.n(1);
-            refused(w, "the reset's number", 13, numbers);
-            changes(w, &v, &b, false, false);
-            w.n(2);
-            w.n(7);
-            refused(w, "the reseed's number", 13, numbers);
-            n += 3;
-            continue;
+            Call::Spare(bits) => {
+                given = spared(&given, *bits);
+                continue;
+            }
+            Call::Broken(which, play) => {
+                n += broken_calls(w, &v, &broken(&v, *which), play, numbers);
+                continue;
+            }
+            _ => {}
         }
         n += 1;
-        changes(w, &v, &given, false, false);
+        changes(w, &v, &given, Whose::Given);
         let mut out = Vec::new();
         if let Call::Play(play) = call {
             play_words(w, play);
@@ -154,11 +198,19 @@ fn calls(w: &mut Words, c: &Case, p: &mut Theirs, numbers: &mut [usize; 18]) -> 
                 continue;
             }
         }
+        if let Call::Retune(rate) = call {
+            retune_words(w, *rate);
+            let q = their_retune(p, &given, *rate);
+            if q != 0 {
+                refused(w, "the retune's number", q, numbers);
+                continue;
+            }
+        }
         if let Some(r) = touched.take() {
             p.set_running(&r);
         }
         match call {
-            Call::Play(play) => out = their_play(p, play, c.rate),
+            Call::Play(play) => out = their_play(p, play, given.sample_rate),
             Call::Reset => {
                 w.n(1);
                 p.ugen().reset();
@@ -168,12 +220,19 @@ fn calls(w: &mut Words, c: &Case, p: &mut Theirs, numbers: &mut [usize; 18]) -> 
                 w.n(*seed as usize);
                 p.ugen().reseed_noise(*seed);
             }
-            Call::Touch(_) | Call::Broken(..) => unreachable!(),
+            Call::Retune(_) => {}
+            Call::Touch(_) | Call::Spare(_) | Call::Broken(..) => unreachable!(),
         }
         w.n(0);
         numbers[0] += 1;
         v = run_to(&given, &p.running());
-        changes(w, &given, &v, true, true);
+        let mut whose = Whose::Call;
+        if let Call::Retune(_) = call {
+            v = with_init(&v, &p.init_gave());
+            whose = Whose::Retune;
+        }
+        changes(w, &given, &v, whose);
+        given = v;
         for x in out {
             w.expect("a sample");
             w.f(x);
@@ -194,17 +253,17 @@ fn record(c: &Case, image: &[u8], numbers: &mut [usize; 18]) -> (Words, u32) {
     let q = read.as_ref().map_or_else(|e| *e, |t| making_question(t, c.kind, c.channel, c.rate, &c.centres));
     w.answer(["the making's number", "the making's first value", "the making's second value"], q);
     if q.0 != 0 {
-        changes(&mut w, &blank(), &blank(), false, false);
+        changes(&mut w, &blank(), &blank(), Whose::Given);
         return (w, q.0);
     }
     let (mut p, rung) = made(&Arc::new(read.unwrap()), c.kind, c.channel, c.rate, &c.centres).unwrap();
-    changes(&mut w, &blank(), &voice_of(&p, c), false, true);
+    changes(&mut w, &blank(), &voice_of(&p, c), Whose::Making);
     for (b, raw) in c.centres.iter().enumerate() {
         let centre = raw.min(c.rate * 0.5 * 0.9).max(20.0);
         w.expect("a ring count");
         w.n(rung[b]);
         w.expect("a noise power");
-        w.f(shim::noise_power(centre, 1.0, c.rate, p.inside().bands[b]).0);
+        w.f(shim::noise_power(centre, 1.0, c.rate, p.init_gave().bands[b]).0);
     }
     let mut list = Words::default();
     let n = calls(&mut list, c, &mut p, numbers);
@@ -241,8 +300,10 @@ pub fn write_list(n: usize, seed: u64, path: &str) {
         let image = if records.is_empty() { long_image(1) } else if r.chance(25) { image::any_image(&mut r) } else { c.table.bytes() };
         let mut numbers = played;
         let (one, q) = record(&c, &image, &mut numbers);
-        // no refusal takes more than a twentieth of the list
-        if q == 0 || made[q as usize] * 20 <= n {
+        // no refusal takes more than a twentieth of the list, and the last places are kept for those that are not there yet
+        let missing = (1..=12).filter(|&q| made[q] == 0).count();
+        let fits = missing < n - records.len() || q != 0 && made[q as usize] == 0;
+        if fits && (q == 0 || made[q as usize] * 20 <= n) {
             made[q as usize] += 1;
             played = numbers;
             records.push(one);

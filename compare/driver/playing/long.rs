@@ -1,4 +1,4 @@
-// One long list of plays on one voice, never reset: what adds up over millions of samples is compared too.
+// One long list of plays on one voice, never reset, whose rate changes while it sounds: what adds up over millions of samples is compared.
 use super::*;
 use crate::race::table;
 
@@ -22,6 +22,9 @@ fn block(r: &mut Rand) -> Play {
     play
 }
 
+// What it is retuned to: mostly the two rates of a cabinet's clock, now and then a limit, or what is refused.
+const RATES: [f32; 8] = [44100.0, 48000.0, 44100.0, 48000.0, 8000.0, 192000.0, 192000.02, f32::NAN];
+
 // Plays a voice of 32 partials and 16 bands until that many samples of channel 0 are compared.
 fn list(kind: u32, samples: u64, r: &mut Rand, tally: &mut Tally) -> Result<u64, String> {
     let (image, rate) = (table(4, 32, 4, 16).bytes(), 44100.0);
@@ -31,9 +34,13 @@ fn list(kind: u32, samples: u64, r: &mut Rand, tally: &mut Tally) -> Result<u64,
     numbers("partials and bands", (v.m, v.j), (32, 16))?;
     let mut done = 0;
     while done < samples {
+        let within = |e| format!("after {done} samples: {e}");
+        if r.below(100) == 0 {
+            check_call(&mut v, &mut p, &Call::Retune(r.pick(&RATES)), tally).map_err(within)?;
+        }
         let play = block(r);
         let accepted = play_question(&v, &play) == 0;
-        check_call(&mut v, &mut p, &Call::Play(play.clone()), rate, tally).map_err(|e| format!("after {done} samples: {e}"))?;
+        check_call(&mut v, &mut p, &Call::Play(play.clone()), tally).map_err(within)?;
         done += if accepted { play.samples as u64 } else { 0 };
     }
     Ok(done)

@@ -18,7 +18,7 @@ use oracle::buffer::AudioBuffer;
 use oracle::coeff_table::CoeffTable;
 use oracle::context::ProcessContext;
 use oracle::node::UGen;
-use oracle::shim::{self, Inside, Running};
+use oracle::shim::{self, Inside, Running, InitGave};
 use oracle::ugens::partials::PartialsNoise;
 use oracle::ugens::partials_blend::PartialsBlend;
 use std::sync::Arc;
@@ -51,9 +51,13 @@ pub enum Call {
     Play(Play),
     Reset,
     Reseed(u32),
+    // another rate, which may be refused
+    Retune(f32),
     // both sides' running state is set
     Touch(Running),
-    // a play, a reset and a reseed of a voice that breaks a rule; the list goes on with the voice before
+    // our places for more bands than the voice has are filled, with floats whose bits count up from these; the original has no such places
+    Spare(u32),
+    // a play, a reset, a reseed and retunes of a voice that breaks a rule; the list goes on with the voice before
     Broken(usize, Play),
 }
 

@@ -19,6 +19,18 @@ impl Theirs {
             Theirs::Blend(p) => p.inside(),
         }
     }
+    pub fn init_gave(&self) -> InitGave {
+        match self {
+            Theirs::Single(p) => p.init_gave(),
+            Theirs::Blend(p) => p.init_gave(),
+        }
+    }
+    // The original's `init`, also of a player that sounds; the ring counts of its bands.
+    pub fn init(&mut self, rate: f32) -> Vec<usize> {
+        shim::take_rung();
+        self.ugen().init(&ProcessContext::new(rate, 128));
+        shim::take_rung()
+    }
     pub fn running(&self) -> Running {
         match self {
             Theirs::Single(p) => p.running(),
@@ -37,9 +49,17 @@ pub fn made(t: &Arc<CoeffTable>, kind: u32, channel: u32, rate: f32, centres: &[
     shim::set_centres(centres);
     let mut p =
         if kind == 0 { Theirs::Single(PartialsNoise::with_channel(t.clone(), channel).ok()?) } else { Theirs::Blend(PartialsBlend::new(t.clone())) };
-    shim::take_rung();
-    p.ugen().init(&ProcessContext::new(rate, 128));
-    Some((p, shim::take_rung()))
+    let rung = p.init(rate);
+    Some((p, rung))
+}
+
+// A retune's question of a voice; where it is answered yes, the original is given the rate.
+pub fn their_retune(p: &mut Theirs, v: &Voice, rate: f32) -> u32 {
+    let q = retune_question(v, rate);
+    if q == 0 {
+        p.init(rate);
+    }
+    q
 }
 
 pub fn buffer(i: &Input, samples: usize) -> Option<AudioBuffer> {

@@ -1,4 +1,4 @@
-// Document 01's questions 8 to 16, which the original does not ask (but for 10).
+// Document 01's questions 8 to 16, which the original does not ask (but for 10), and those of a retune.
 use super::*;
 
 pub fn gain(e: &oracle::coeff_table::PitchEntry, key: &str) -> Option<f32> {
@@ -26,7 +26,7 @@ pub fn making_question(t: &CoeffTable, kind: u32, channel: u32, rate: f32, centr
     if kind == 0 && !t.entries.is_empty() && t.entries.iter().all(|e| channel >= e.k_channels) {
         return (10, 0, 0);
     }
-    if !(rate >= 8000.0 && rate <= 192000.0) {
+    if !rate_fits(rate) {
         return (11, 0, 0);
     }
     if centres.len() != band_count(t, kind, channel) || centres.iter().any(|c| !c.is_finite()) {
@@ -35,16 +35,26 @@ pub fn making_question(t: &CoeffTable, kind: u32, channel: u32, rate: f32, centr
     (0, 0, 0)
 }
 
+pub fn rate_fits(rate: f32) -> bool {
+    rate >= 8000.0 && rate <= 192000.0
+}
+
 pub fn keeps_rules(v: &Voice) -> bool {
     let count = v.count <= 16 && v.m <= 32 && v.j <= 16 && v.k <= 4 && v.live_count <= 16;
     count
         && v.f0_hz[..v.count].iter().all(|&f| f > 0.0 && f <= 20000.0)
         && v.f0_hz[..v.count].windows(2).all(|w| w[0] <= w[1])
         && v.stretch[..v.count].iter().all(|&s| s >= 0.0 && s <= 4.0)
-        && (v.sample_rate >= 8000.0 && v.sample_rate <= 192000.0)
+        && rate_fits(v.sample_rate)
         && v.live[..v.live_count].iter().all(|&b| (b as usize) < v.j)
         && v.live[..v.live_count].windows(2).all(|w| w[0] < w[1])
+        && v.centres[..v.j].iter().all(|c| c.is_finite())
         && v.state.phases[..v.m].iter().all(|&p| p >= 0.0 && p < 1.0)
+}
+
+pub fn retune_question(v: &Voice, rate: f32) -> u32 {
+    let asked = [(13, keeps_rules(v)), (11, rate_fits(rate))];
+    asked.iter().find(|(_, yes)| !yes).map_or(0, |(number, _)| *number)
 }
 
 pub fn play_question(v: &Voice, p: &Play) -> u32 {

@@ -1,4 +1,4 @@
-// Shrinking: without calls, entries, inputs, channels, samples.
+// Shrinking: without calls, entries, inputs, channels, samples; a plain rate for an odd one.
 use super::*;
 
 pub fn smaller(c: &Case) -> Vec<Case> {
@@ -41,7 +41,17 @@ pub fn smaller(c: &Case) -> Vec<Case> {
             }
         }
     }
+    const PLAIN: [f32; 4] = [44100.0, 48000.0, 8000.0, 192000.0];
     for i in 0..c.calls.len() {
+        if let Call::Retune(rate) = c.calls[i]
+            && !PLAIN.contains(&rate)
+        {
+            for plain in PLAIN {
+                let mut d = c.clone();
+                d.calls[i] = Call::Retune(plain);
+                l.push(d);
+            }
+        }
         let Call::Play(p) = &c.calls[i] else { continue };
         let mut put = |p: Play| {
             let mut d = c.clone();

@@ -1,4 +1,4 @@
-// Times of making and playing.
+// Times of making, retuning and playing.
 use super::*;
 use crate::race::{Race, table};
 use std::hint::black_box;
@@ -36,6 +36,28 @@ fn making(race: &Race, what: &str, s: &Setup) {
     );
 }
 
+// A voice that goes on is given another rate, by turns these two; the original's `init` of a player that goes on.
+const CLOCKS: [f32; 2] = [44100.0, RATE];
+
+fn retuning(race: &Race, what: &str, s: &Setup, by_value: bool) {
+    let mut v = ffi::make(s.kind, 0, &s.image, RATE, &s.centres).voice;
+    let (mut p, _) = made(&s.table, s.kind, 0, RATE, &s.centres).unwrap();
+    let (mut ours, mut theirs) = (CLOCKS.iter().cycle(), CLOCKS.iter().cycle());
+    race.line(
+        what,
+        1.0,
+        || {
+            let rate = black_box(*ours.next().unwrap());
+            if by_value {
+                v = ffi::retune(&v, rate).voice;
+            } else {
+                black_box(ffi::retune_in(&mut v, rate));
+            }
+        },
+        || drop(black_box(p.init(black_box(*theirs.next().unwrap())))),
+    );
+}
+
 // Every input is connected. Steady: the frequency and the gains have one value each. Gliding: all of them change at each sample.
 fn inputs(n: usize, gliding: bool) -> (Input, [Input; 4]) {
     let to = |a: f32, b: f32| glide(n, 1, a, if gliding { b } else { a });
@@ -68,8 +90,16 @@ fn playing(race: &Race, what: &str, s: &Setup, channels: usize, n: usize, glidin
 }
 
 pub fn race(race: &Race) {
-    making(race, "a single voice, 4 entries, 32 partials, 16 bands,", &setup(0, 32, 1, 16));
-    making(race, "a blend of 4, 4 entries, 32 partials, 16 bands,", &setup(1, 32, 4, 16));
+    for (bands, j) in [("16 bands", 16), ("no bands", 0)] {
+        making(race, &format!("a single voice, 4 entries, 32 partials, {bands},"), &setup(0, 32, 1, j));
+        making(race, &format!("a blend of 4, 4 entries, 32 partials, {bands},"), &setup(1, 32, 4, j));
+    }
+    for (voice, kind, k) in [("a single voice", 0, 1), ("a blend of 4", 1, 4)] {
+        let s = setup(kind, 32, k, 16);
+        for (how, by_value) in [("", false), ("; by value", true)] {
+            retuning(race, &format!("retuning {voice}, 16 bands{how}"), &s, by_value);
+        }
+    }
     println!("steady: frequency and gains connected, each with one value; gliding: frequency and gains change at each sample");
     for (voice, kind, m, k, j) in [
         ("single, 32 partials, 16 bands", 0, 32, 1, 16),
