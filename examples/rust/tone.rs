@@ -1,4 +1,4 @@
-// The library from Rust: reads a table, makes a voice of it, plays a block, and prints the first samples.
+// The library from Rust: reads a table, makes a voice of it, plays a block, goes on at another sample rate, and prints the first samples.
 // Build it beside the static library (`rt staticlib sounder`):
 //   rustc -O --edition 2024 -C link-arg=target/staticlib/libsounder.a -o target/tone examples/rust/tone.rs
 // include/sounder.h says what each function promises; the declarations below are the same.
@@ -47,10 +47,14 @@ struct Voice {
     noise_gain: [f32; 16],
     bands: [[f32; 5]; 16],
     compensation: [f32; 16],
+    centres: [f32; 16],
     partials: [f32; 2048],
     noise: [f32; 1024],
     state: State,
 }
+
+// SOUNDER_VOICE_BYTES
+const _: () = assert!(size_of::<Voice>() == 13328);
 
 // How long and how wide a block is, and how many channels each input has; 0: unconnected.
 #[repr(C)]
@@ -91,6 +95,7 @@ unsafe extern "C" {
         voice: *mut Voice, shape: Shape, freq: *const f32, freq_len: usize, g0: *const f32, g0_len: usize, g1: *const f32, g1_len: usize,
         g2: *const f32, g2_len: usize, g3: *const f32, g3_len: usize, out: *mut f32, out_len: usize,
     ) -> u32;
+    fn sounder_retune_in(voice: *mut Voice, rate: f32) -> u32;
 }
 
 // A table with one entry of pitch 880: one channel, three partials and a noise band.
@@ -115,6 +120,17 @@ fn image() -> Vec<u8> {
 
 // The slice of an input that is not connected: its pointer may not be null.
 const NONE: (*const f32, usize) = ([].as_ptr(), 0);
+
+// A block of the voice where it lies; the gains are not connected.
+#[rustfmt::skip]
+fn play_in(voice: &mut Voice, shape: Shape, freq: &[f32], out: &mut [f32]) -> u32 {
+    unsafe {
+        sounder_play_in(
+            voice, shape, freq.as_ptr(), freq.len(), NONE.0, NONE.1, NONE.0, NONE.1, NONE.0, NONE.1, NONE.0, NONE.1,
+            out.as_mut_ptr(), out.len(),
+        )
+    }
+}
 
 fn main() {
     let image = image();
@@ -148,12 +164,19 @@ fn main() {
 
     // the same block of the voice where it lies, which moves on: the way of a host that plays many short blocks
     let (mut own, mut heard) = (made.voice, [0f32; 128]);
-    #[rustfmt::skip]
-    let number = unsafe {
-        sounder_play_in(
-            &mut own, shape, freq.as_ptr(), freq.len(), NONE.0, NONE.1, NONE.0, NONE.1, NONE.0, NONE.1, NONE.0, NONE.1, heard.as_mut_ptr(), heard.len(),
-        )
-    };
+    let number = play_in(&mut own, shape, &freq, &mut heard);
     println!("played in place: {number}, {:?}", &heard[..6]);
     assert!(number == 0 && heard == out && own.state.noise == played.voice.state.noise && own.state.phases == played.voice.state.phases);
+
+    // the clock moves to 44,100 while the tone sounds: the voice goes on from its phases, and the band is another for the same centre
+    let number = unsafe { sounder_retune_in(&mut own, 44100.0) };
+    println!("retuned: {number}, {} Hz, band {:?}", own.sample_rate, own.bands[0]);
+    assert!(number == 0 && own.sample_rate == 44100.0 && own.centres[0] == 1000.0 && own.bands[0] != played.voice.bands[0]);
+    assert!(own.state.phases == played.voice.state.phases && own.state.memories == played.voice.state.memories);
+    // a rate that no voice has is refused, and the voice stays as it is
+    let refused = unsafe { sounder_retune_in(&mut own, 7999.0) };
+    assert!(refused == 11 && own.sample_rate == 44100.0);
+    let number = play_in(&mut own, shape, &freq, &mut heard);
+    println!("played on: {number}, {:?}", &heard[..6]);
+    assert!(number == 0 && heard.iter().all(|y| y.is_finite()) && heard != out);
 }
