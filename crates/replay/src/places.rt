@@ -42,7 +42,7 @@ pub fn blank() -> Voice {
     }
 }
 
-// Where place i of a field stands, of the fields that have 16: a short list (9 to 12, 20), a coefficient of each band (15 to 19),
+// Where place i of a field stands, of the fields that have 16: a short list (9 to 12, 20, 25), a coefficient of each band (15 to 19),
 // a memory of each band (22, 23). Past the end where there is none.
 fn place_of(field: u32, i: usize) -> usize {
     if 16 <= i {
@@ -60,6 +60,7 @@ fn place_of(field: u32, i: usize) -> usize {
         20 => 144 + i,
         22 => i * 2,
         23 => i * 2 + 1,
+        25 => 160 + i,
         _ => i,
     }
 }
@@ -154,6 +155,7 @@ fn set(mut v: Voice, at: u32, n: u32) -> Voice {
             v
         }
         9..=20 => set_float(v, field, i, float::from_bits(n)),
+        25 => set_float(v, field, i, float::from_bits(n)),
         _ => {
             let s = v.state;
             v.state = set_state(s, field, i, n);
@@ -263,7 +265,8 @@ fn same_lists(t: Tally, ours: &[f32], theirs: &[f32]) -> Tally {
     let t = same_field(t, b"b2", 17, ours, theirs);
     let t = same_field(t, b"a1", 18, ours, theirs);
     let t = same_field(t, b"a2", 19, ours, theirs);
-    same_field(t, b"compensation", 20, ours, theirs)
+    let t = same_field(t, b"compensation", 20, ours, theirs);
+    same_field(t, b"centres", 25, ours, theirs)
 }
 
 fn same_state(t: Tally, ours: State, theirs: State) -> Tally {

@@ -28,6 +28,7 @@ use sounder::voices::sounder_make;
 use sounder::voices::sounder_play;
 use sounder::voices::sounder_reseed;
 use sounder::voices::sounder_reset;
+use sounder::voices::sounder_retune;
 use voice::Played;
 use voice::Shape;
 use voice::Voice;
@@ -241,7 +242,7 @@ fn call(t: Tally, r: &[u8], at: usize, before: Voice) -> Step {
             given,
             sounder_reset(given),
         ),
-        _ => concluded(
+        2 => concluded(
             t,
             r,
             place(at, 2),
@@ -249,6 +250,15 @@ fn call(t: Tally, r: &[u8], at: usize, before: Voice) -> Step {
             before,
             given,
             sounder_reseed(given, word(r, place(at, 1))),
+        ),
+        _ => concluded(
+            t,
+            r,
+            place(at, 2),
+            b"the retune's number",
+            before,
+            given,
+            sounder_retune(given, float_at(r, place(at, 1))),
         ),
     }
 }
