@@ -1,9 +1,11 @@
 // Runs at the limits: each line is what was asked, and the number of the answer (0: accepted). The expected lines in `stdout` are document
-// 01's.
+// 01's, and card 1's of document 02.
 mod images;
 
 use sounder::voices::sounder_make;
 use sounder::voices::sounder_play;
+use sounder::voices::sounder_retune;
+use voice::CENTRES;
 use voice::Shape;
 use voice::Voice;
 
@@ -152,6 +154,54 @@ fn blocks() {
     );
 }
 
+// A retune of a voice.
+fn retuned(what: &[u8], voice: Voice, rate: f32) {
+    let p = sounder_retune(voice, rate);
+    say(what, p.number);
+}
+
+// A voice whose first centre is not finite, as a voice of j bands.
+fn infinite_centre(v: Voice, j: usize) -> Voice {
+    let mut set = v.set;
+    set.j = j;
+    let mut lists = v.lists;
+    lists[CENTRES * 16] = 1.0 / 0.0;
+    let mut broken = v;
+    broken.set = set;
+    broken.lists = lists;
+    broken
+}
+
+fn retunes() {
+    let sixteen = images::SIXTEEN;
+    let none: [f32; 1] = [0.0; 1];
+    let v = made(b"a voice", &sixteen, 0, 48000.0, &none[..0]);
+    let no_number = 0.0f32 / 0.0;
+    let infinite = 1.0f32 / 0.0;
+    retuned(b"a retune to 8000", v, 8000.0);
+    retuned(b"to the float before 8000", v, 7999.99951171875);
+    retuned(b"to 192000", v, 192000.0);
+    retuned(b"to the float after 192000", v, 192000.015625);
+    retuned(b"to no number", v, no_number);
+    retuned(b"to infinity", v, infinite);
+    retuned(b"to -44100", v, -44100.0);
+    retuned(
+        b"of a centre past the bands that is infinite",
+        infinite_centre(v, 0),
+        44100.0,
+    );
+    retuned(
+        b"of a band's centre that is infinite",
+        infinite_centre(v, 1),
+        44100.0,
+    );
+    retuned(
+        b"of the same, to no number",
+        infinite_centre(v, 1),
+        no_number,
+    );
+}
+
 // One sample at a frequency, at gain 1.
 fn at_frequency(what: &[u8], voice: Voice, f: f32) {
     let freq: [f32; 1] = [f; 1];
@@ -185,4 +235,5 @@ fn main() {
     makings();
     blocks();
     floats();
+    retunes();
 }
