@@ -2,6 +2,7 @@
 """Plays a table as document 01 defines it, apart from the library, and prints what tone prints last: samples, peak and CRC-32 of the WAV.
 
     tools/play.py TABLE [--single N | --blend] [--rate HZ] [--freq HZ] [--to HZ] [--gain G ..] [--seconds S] [--seed N] [--centres FILE]
+                  [--retune HZ [--at S]]
 
 Every operation on a float is worked out in double precision and rounded to f32 once: sums, differences, products, quotients and roots
 of f32 come out as IEEE 754 has them, since double precision has more than twice the digits. With --words NAME it prints all that tone
@@ -149,7 +150,7 @@ class Voice:
     """A voice of one channel, or a blend."""
 
     def __init__(self, entries, single, rate, centres):
-        self.single, self.rate = single, rate
+        self.single, self.centres = single, centres
         if single is not None:
             entries = [e for e in entries if single < e['k']]
             used = [single]
@@ -171,9 +172,14 @@ class Voice:
         self.memories = [[0.0, 0.0] for _ in range(self.j)]
         self.noise = (0x9A271E55 + 1) % 2**32
         assert len(centres) == self.j, 'as many centres as bands'
-        self.bands = [band(c, rate) for c in centres]
-        self.comp = [compensation(c, b, rate) for c, b in self.bands]
         self.pitches = [e['pitch'] for e in self.entries]
+        self.init(rate)
+
+    def init(self, rate):
+        """The rate, and the bands and compensations that it gives the centres: of a new voice, or of one that sounds and goes on."""
+        self.rate = rate
+        self.bands = [band(c, rate) for c in self.centres]
+        self.comp = [compensation(c, b, rate) for c, b in self.bands]
 
     def sample(self, f0, gains):
         inv, nyquist, out = f(1.0 / self.rate), f(self.rate * 0.5), 0.0
@@ -230,6 +236,12 @@ def wav(rate, samples):
     return b'RIFF' + struct.pack('<I', len(head) + len(data)) + head + data
 
 
+def millionths(seconds):
+    """Millionths of a second, of at most six places."""
+    whole, _, places = seconds.partition('.')
+    return int((whole or '0') + places.ljust(6, '0'))
+
+
 def status(work, words):
     """Does the work of a tool with its arguments, and answers the status: 1 for a file that cannot be read or played, and why is said."""
     try:
@@ -254,18 +266,24 @@ def main(words):
     p.add_argument('--seconds', default='1')
     p.add_argument('--seed', type=int)
     p.add_argument('--centres')
+    p.add_argument('--retune', type=int)
+    p.add_argument('--at')
     p.add_argument('--words')
     o = p.parse_args(words)
+    if o.at is not None and (o.retune is None or millionths(o.seconds) < millionths(o.at)):
+        p.error('--at is the time of a --retune, and at most --seconds')
     freq = 220.0 if o.freq is None else o.freq
     centres = [decimal(l.strip()) for l in open(o.centres) if l.strip() and not l.startswith('#')] if o.centres else []
     v = Voice(table(open(o.table, 'rb').read()), None if o.blend else o.single, float(o.rate), centres)
     if o.seed is not None:
         v.noise = (o.seed + 1) % 2**32
-    whole, _, places = o.seconds.partition('.')
-    total = int((whole or '0') + places.ljust(6, '0')) * o.rate // 1000000
+    total = millionths(o.seconds) * o.rate // 1000000
+    change = total // 2 if o.at is None else millionths(o.at) * o.rate // 1000000
     gains = o.gain + [1.0, 0.0, 0.0, 0.0][len(o.gain):]
     out = []
     for n in range(total):
+        if o.retune is not None and n == change:
+            v.init(float(o.retune))
         f0 = freq if o.to is None else lerp(freq, o.to, f(f(n) / f(total)))
         out.append(v.sample(f0 if f0 > 0 and math.isfinite(f0) else 0.0, gains))
     peak = max([abs(x) for x in out], default=0.0)
@@ -278,9 +296,12 @@ def main(words):
         if v.k < len(o.gain):
             print(f'the voice has {counted(v.k, "channel")}: the gains beyond are not heard')
         blocks = -(-total // 128)
-        for d in range(1, blocks + 1):
-            if (d - 1) * 10 // blocks < d * 10 // blocks:
-                print(f'played {min(d * 128, total)} of {counted(total, "sample")}')
+        tenths = [d for d in range(1, blocks + 1) if (d - 1) * 10 // blocks < d * 10 // blocks]
+        lines = [(min(d * 128, total), f'played {min(d * 128, total)} of {counted(total, "sample")}') for d in tenths]
+        if o.retune is not None:
+            lines.append((change, f'retuned to {o.retune} a second after {counted(change, "sample")}'))
+        for _, line in sorted(lines, key=lambda l: l[0]):
+            print(line)
         print(f'wrote {o.words}: ', end='')
     print(f'{counted(total, "sample")} at {o.rate} a second, peak {peak:.6f}, CRC-32 of the file {zlib.crc32(wav(o.rate, out)):08x}')
     if o.words and peak > 1:
