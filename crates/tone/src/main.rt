@@ -24,6 +24,7 @@ use sounder::images::sounder_from_bytes;
 use sounder::voices::sounder_make;
 use sounder::voices::sounder_reseed;
 use voice::Voice;
+use voice::rate_ok;
 
 fn usage() {
     say::text(
@@ -53,6 +54,14 @@ fn usage() {
     say::text(
         1,
         b"  --centres FILE  the noise bands' centres, a number a line\n",
+    );
+    say::text(
+        1,
+        b"  --retune HZ     go over to this rate while the tone sounds, 8000 to 192000\n",
+    );
+    say::text(
+        1,
+        b"  --at S          when, in seconds from the start (half of the way)\n",
     );
     say::text(
         1,
@@ -103,19 +112,35 @@ fn describe_gains(o: Options, channels: usize) {
     }
 }
 
-// Whether a pitch that was asked for can be played; if not, refusal 16 is said before anything is written.
+// Says that an option is refused, before anything is written.
+fn refuse(option: &[u8], number: u32) {
+    say::text(2, option);
+    words::refusal(
+        2,
+        Answer {
+            number,
+            first: 0,
+            second: 0,
+        },
+    );
+    say::text(2, b"\n");
+}
+
+// Whether the rate to retune to is one; if not, refusal 11 is said.
+fn retune_ok(o: Options) -> bool {
+    if o.retunes {
+        if !rate_ok(std::num::nearest_u32_to_f32(o.retune)) {
+            refuse(b"--retune: ", 11);
+            return false;
+        }
+    }
+    true
+}
+
+// Whether a pitch that was asked for can be played; if not, refusal 16 is said.
 fn pitch_ok(x: f32, option: &[u8]) -> bool {
     if 20000.0 < x {
-        say::text(2, option);
-        words::refusal(
-            2,
-            Answer {
-                number: 16,
-                first: 0,
-                second: 0,
-            },
-        );
-        say::text(2, b"\n");
+        refuse(option, 16);
         return false;
     }
     true
@@ -160,6 +185,9 @@ fn play_image(o: Options, image: &[u8], centres: &[f32]) {
         let desk = sounder_desk(o.blend, o.channel, image);
         words::making_refusal(2, answer, desk.bands as u64, centres.len() as u64);
         say::text(2, b"\n");
+        return;
+    }
+    if !retune_ok(o) {
         return;
     }
     if !pitches_ok(o) {

@@ -24,8 +24,12 @@ pub struct Options {
     pub micros: u64, // millionths of a second
     pub seed: u32,
     pub seeded: bool,
+    pub retune: u32,
+    pub retunes: bool,
+    pub at: u64, // millionths of a second
+    pub at_given: bool,
     pub skip: bool,
-    pub given: [bool; 10],
+    pub given: [bool; 12],
     pub help: bool,
     pub failed: bool,
 }
@@ -47,8 +51,12 @@ fn defaults() -> Options {
         micros: 1000000,
         seed: 0,
         seeded: false,
+        retune: 0,
+        retunes: false,
+        at: 0,
+        at_given: false,
         skip: false,
-        given: [false; 10],
+        given: [false; 12],
         help: false,
         failed: false,
     }
@@ -65,7 +73,7 @@ fn wrong(mut o: Options, word: &[u8], why: &[u8]) -> Options {
     o
 }
 
-// The options by number: 1 to 8 take a value.
+// The options by number: 1 to 10 take a value.
 fn which(word: &[u8]) -> u32 {
     if check::same(word, b"--single") {
         return 1;
@@ -91,8 +99,14 @@ fn which(word: &[u8]) -> u32 {
     if check::same(word, b"--centres") {
         return 8;
     }
-    if check::same(word, b"--blend") {
+    if check::same(word, b"--retune") {
         return 9;
+    }
+    if check::same(word, b"--at") {
+        return 10;
+    }
+    if check::same(word, b"--blend") {
+        return 11;
     }
     0
 }
@@ -107,6 +121,8 @@ fn say_option(option: u32) {
         6 => say::text(2, b"--seconds"),
         7 => say::text(2, b"--seed"),
         8 => say::text(2, b"--centres"),
+        9 => say::text(2, b"--retune"),
+        10 => say::text(2, b"--at"),
         _ => say::text(2, b"--blend"),
     }
 }
@@ -141,7 +157,7 @@ fn wrong_value(mut o: Options, option: u32, text: &[u8], why: &[u8]) -> Options 
 
 // Notes that an option was given. Only a gain may be given more than once.
 fn note(mut o: Options, option: u32, word: &[u8]) -> Options {
-    if 9 < option {
+    if 11 < option {
         return o;
     }
     let n = option as usize;
@@ -166,6 +182,11 @@ fn set_whole(mut o: Options, option: u32, text: &[u8]) -> Options {
             }
             if option == 2 {
                 o.rate = n;
+                return o;
+            }
+            if option == 9 {
+                o.retune = n;
+                o.retunes = true;
                 return o;
             }
             o.seed = n;
@@ -206,15 +227,20 @@ fn millionths(d: Decimal) -> u64 {
     }
 }
 
-fn set_seconds(mut o: Options, text: &[u8], d: Decimal) -> Options {
+fn set_seconds(mut o: Options, option: u32, text: &[u8], d: Decimal) -> Options {
     let n = millionths(d);
     if 60000000 < n {
         return wrong_value(
             o,
-            6,
+            option,
             text,
             b"not a number of seconds from 0 to 60 with at most six places",
         );
+    }
+    if option == 10 {
+        o.at = n;
+        o.at_given = true;
+        return o;
     }
     o.micros = n;
     o
@@ -230,7 +256,10 @@ fn set_decimal(mut o: Options, option: u32, text: &[u8]) -> Options {
         ),
         DecimalRead::Number(d) => {
             if option == 6 {
-                return set_seconds(o, text, d);
+                return set_seconds(o, option, text, d);
+            }
+            if option == 10 {
+                return set_seconds(o, option, text, d);
             }
             let x = value(d);
             if option == 3 {
@@ -295,6 +324,9 @@ fn set(mut o: Options, option: u32, i: usize) -> Options {
     if option == 7 {
         return set_whole(o, option, &text[..n]);
     }
+    if option == 9 {
+        return set_whole(o, option, &text[..n]);
+    }
     set_decimal(o, option, &text[..n])
 }
 
@@ -331,7 +363,7 @@ fn take_word(mut o: Options, word: &[u8], i: usize, count: usize) -> Options {
         );
     }
     o = note(o, option, word);
-    if option == 9 {
+    if option == 11 {
         o.blend = 1;
         return o;
     }
@@ -358,8 +390,30 @@ fn take_argument(mut o: Options, i: usize, count: usize) -> Options {
     take_word(o, &word[..n], i, count)
 }
 
-// Whether what was given goes together; what does not has been said.
-fn goes_together(o: Options) -> bool {
+// Whether a time was given only for a retune, and within the tone; what does not go together has been said.
+fn time_goes(o: Options) -> bool {
+    if !o.at_given {
+        return true;
+    }
+    if !o.retunes {
+        say::text(
+            2,
+            b"tone: --at: it is the time of a retune, and no --retune is given\n",
+        );
+        return false;
+    }
+    if o.micros < o.at {
+        say::text(
+            2,
+            b"tone: --at: the tone ends before (--seconds; 1 where nothing is said)\n",
+        );
+        return false;
+    }
+    true
+}
+
+// Whether the kind of the voice and the gains go together; what does not has been said.
+fn kind_goes(o: Options) -> bool {
     let given = o.given;
     if o.blend == 1 {
         if given[1] {
@@ -393,7 +447,10 @@ pub fn is_right(o: Options) -> bool {
         say::text(2, b"tone: a table and a file to write are needed\n");
         return false;
     }
-    goes_together(o)
+    if !kind_goes(o) {
+        return false;
+    }
+    time_goes(o)
 }
 
 // Reads all arguments. What is wrong with them has been said where `failed` is set.

@@ -1,10 +1,11 @@
 // The file: made under a name of its own, filled block by block, and given its name at the end.
-ghost use Prim.Native.Nat.{_≤_};
+ghost use Prim.Native.Nat.{_<_, _≤_};
 ghost use Rattle.io.specs.Counts.{Counts};
 use crate::crc;
 use crate::options::Options;
 use crate::playing::Run;
 use crate::playing::block;
+use crate::playing::retuned;
 use crate::sink;
 use crate::sink::Sink;
 use crate::wav;
@@ -13,34 +14,48 @@ use console::words;
 use sounder::Answer;
 use voice::Voice;
 
-// How many samples: whole ones, of up to 60 seconds at up to 192,000 a second, so that each number of a sample is an f32.
+// How many samples a time has: whole ones, of up to 60 seconds at up to 192,000 a second, so that each number of a sample is an f32.
 // More, which no voice that was made can ask for, stands for none.
-fn samples(o: Options) -> u32 {
-    if 60000000 < o.micros {
+fn samples(micros: u64, rate: u32) -> u32 {
+    if 60000000 < micros {
         return 0;
     }
-    let n = o.micros * (o.rate as u64) / 1000000;
+    let n = micros * (rate as u64) / 1000000;
     if 16777216 < n { 0 } else { n as u32 }
 }
 
-fn least(a: u32, b: u32) -> u32
-    ensures { λ r. ⌜ r ≤ b ⌝ }
-{
-    if a < b { a } else { b }
+// How many samples are played before the retune: half of them, where no time was given.
+fn before_retune(o: Options, total: u32) -> u32 {
+    if o.at_given {
+        samples(o.at, o.rate)
+    } else {
+        total / 2
+    }
 }
 
-// A line at each tenth of the blocks.
-fn progress(done: u32, blocks: u32, played: u32, total: u32) {
-    if blocks == 0 {
-        return;
+// How many blocks of 128 samples hold n.
+fn blocks(n: u32) -> u32
+    ensures { λ r. ⌜ r ≤ 33554432 ⌝ }
+{
+    n / 128 + (n % 128 + 127) / 128
+}
+
+// A line at each tenth of the blocks. A block that a retune cuts in two is done with its second part.
+fn progress(played: u32, total: u32) {
+    if played % 128 != 0 {
+        if played != total {
+            return;
+        }
     }
-    if 131072 < done {
+    let done = blocks(played);
+    let all = blocks(total);
+    if all == 0 {
         return;
     }
     if done == 0 {
         return;
     }
-    if (done - 1) * 10 / blocks < done * 10 / blocks {
+    if (done - 1) * 10 / all < done * 10 / all {
         say::text(1, b"played ");
         say::number(1, played as u64);
         say::text(1, b" of ");
@@ -56,36 +71,54 @@ fn is_well(run: Run) -> bool {
     run.number == 0
 }
 
-// One block of the total, by its number.
-fn nth(o: Options, fd: i32, run: Run, b: u32, blocks: u32, total: u32) -> Run {
-    if 131072 <= b {
-        return run;
-    }
-    let first = b * 128;
-    if total <= first {
-        return run;
-    }
-    let n = least(128, total - first);
-    let after = block(o, fd, run, first, total, n as usize);
-    if is_well(after) {
-        progress(b + 1, blocks, first + n, total);
-    }
-    after
+// Where the block that starts at a sample ends: at the next multiple of 128, or at `to` where that comes first.
+fn block_end(from: u32, to: u32) -> u32
+    requires { ⌜ from < to ⌝ }
+    ensures { λ r. ⌜ (from < r) × (r ≤ to) ⌝ }
+{
+    let n = 128 - from % 128;
+    if n < to - from { from + n } else { to }
 }
 
-// All blocks, up to the first that fails.
-fn fill(o: Options, fd: i32, start: Run, total: u32) -> Run {
-    let blocks = total / 128 + (total % 128 + 127) / 128;
+// The samples from one up to another, in blocks, up to the first block that fails.
+fn fill(o: Options, fd: i32, start: Run, from: u32, to: u32, total: u32) -> Run {
     let mut run = start;
-    let mut b = 0;
-    while b < blocks {
-        run = nth(o, fd, run, b, blocks, total);
+    let mut played = from;
+    while played < to {
+        let end = block_end(played, to);
+        run = block(o, fd, run, played, total, (end - played) as usize);
         if !is_well(run) {
             return run;
         }
-        b += 1;
+        played = end;
+        progress(played, total);
     }
     run
+}
+
+fn say_retuned(rate: u32, played: u32) {
+    say::text(1, b"retuned to ");
+    say::number(1, rate as u64);
+    say::text(1, b" a second after ");
+    say::counted(1, played as u64, b" sample\n", b" samples\n");
+}
+
+// All samples, with the retune between two of them where one is asked for.
+fn fill_all(o: Options, fd: i32, start: Run, total: u32) -> Run {
+    if !o.retunes {
+        return fill(o, fd, start, 0, total, total);
+    }
+    let n = before_retune(o, total);
+    let before = fill(o, fd, start, 0, n, total);
+    if !is_well(before) {
+        return before;
+    }
+    let after = retuned(before, o.retune);
+    if !is_well(after) {
+        return after;
+    }
+    say_retuned(o.retune, n);
+    fill(o, fd, after, n, total, total)
 }
 
 // The header of a file of `total` samples.
@@ -112,7 +145,7 @@ fn fill_file(o: Options, fd: i32, voice: Voice, total: u32) -> Run {
         peak: 0,
         number: 0,
     };
-    fill(o, fd, start, total)
+    fill_all(o, fd, start, total)
 }
 
 // Whether the file is there in full: every byte written, and on its device.
@@ -229,7 +262,7 @@ fn make_file(o: Options, voice: Voice, path: &[u8], part: &[u8]) {
         no_part(part);
         return;
     }
-    let total = samples(o);
+    let total = samples(o.micros, o.rate);
     let run = fill_file(o, fd, voice, total);
     let whole = is_whole(run, fd, part);
     let own = is_own(fd, part);

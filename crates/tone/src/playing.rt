@@ -5,6 +5,7 @@ use crate::options::Options;
 use crate::sink::Sink;
 use crate::sink::send;
 use sounder::voices::sounder_play;
+use sounder::voices::sounder_retune;
 use table::desk::larger;
 use voice::Shape;
 use voice::Voice;
@@ -139,6 +140,20 @@ pub fn block(o: Options, fd: i32, run: Run, first: u32, total: u32, n: usize) ->
         voice: after,
         sink,
         peak: peak_of(&out, n, run.peak),
+        number: p.number,
+    }
+}
+
+// The voice at another rate. The tone goes on: its phases and memories are kept.
+pub fn retuned(run: Run, rate: u32) -> Run {
+    let voice = run.voice;
+    let p = sounder_retune(voice, std::num::nearest_u32_to_f32(rate));
+    let after = p.voice;
+    let sink = run.sink;
+    Run {
+        voice: after,
+        sink,
+        peak: run.peak,
         number: p.number,
     }
 }
