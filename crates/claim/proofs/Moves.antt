@@ -107,17 +107,17 @@ bands-for rate h [] = refl
 bands-for rate h (c ∷ cs) = rw (band-coeffs c rate h, bands-for rate h cs)
 
 module _ (k : Kind) (es : List PitchEntry) (rate : Float) (centres : List Float) (few : length (voiceEntries k es) ≤ 16) (j : length centres ≡ bandCount k es) (can : rateOk rate ≡ true) where
-  abbrev pub fresh : Voice
+  abbrev fresh : Voice
   fresh = freshVoice k es rate centres
 
-  abbrev pub plainly : Plain
+  abbrev plainly : Plain
   plainly = plainFrom k es rate centres
 
   -- what is in use of a state of the fresh voice, and the same beside what the machine takes
-  abbrev pub view : State → Machine
+  abbrev view : State → Machine
   view s = running (withState fresh s)
 
-  abbrev pub supply : State → Supplied
+  abbrev supply : State → Supplied
   supply s = supplied plainly (view s)
 
   count-is : fresh .set .count ≡ length (voiceEntries k es)

@@ -1,4 +1,5 @@
--- The plain machine (document 01, module 6): phases, memories and the noise number, moved by frequencies, resets, seeds and retunes.
+-- The plain machine (document 01, module 6; document 02, card 1): phases, memories and the noise number, moved by frequencies, resets,
+-- seeds and retunes.
 -- It takes entries, rate and band coefficients from the arguments of a making and of retunes, never from a voice. Both kinds share it.
 use Prim.Native.Nat.{ℕ, _+_}
 use mathlib.Core.List.{List, [], _∷_, map}

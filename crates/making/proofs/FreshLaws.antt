@@ -28,7 +28,7 @@ use Rattle.voice.proofs.PutLaws.{length-mapped, length-padded, getD-past, list-
 use Rattle.voice.proofs.InitLaws.{length-init, centres-at}
 use Rattle.making.specs.Making.{f32, all, sizesOk, valuesOk, keeps, insertByPitch, gathered, voiceEntries, channelCount, partialCoeff, isNonzero, presentFinite, mainlobeKey, noiseGainKey, partialReach, reachIn, most, phasesFor, phaseCount, isLive, liveBands, gainOf, freshLists, freshVoice, Making, makeQuestion}
 use Rattle.voice.proofs.Loops.{both-true, length-joinTo, at-every, getD-padded}
-use Rattle.making.proofs.ListLaws.{four, length-four}
+use Rattle.making.proofs.ListLaws.{front, front-long, lists-split}
 use Rattle.making.proofs.SortLaws.{all-insert, all-gathered, bands-few}
 use Rattle.making.proofs.MakingLaws.{Accepted, live-short}
 use Rattle.making.proofs.AcceptedLaws.{make-accepted}
@@ -295,29 +295,19 @@ module _ (k : Kind) (es : List PitchEntry) (rate : Float) (centres : List Float)
   unfolding freshVoice freshLists
   fresh-places h =
       let vs = voiceEntries k es in
-      let a = column pitch vs in
-      let b = column (λ e. f32 (e .stretch)) vs in
-      let c = column (gainOf mainlobeKey) vs in
-      let d = column (gainOf noiseGainKey) vs in
       let x = initFloats centres rate in
       let z = padded 16 (quotient 0 1) centres in
-      let front : length (((a ++ b) ++ c) ++ d) ≡ 64 = length-four a b c d (sized pitch) (sized (λ e. f32 (e .stretch))) (sized (gainOf mainlobeKey)) (sized (gainOf noiseGainKey)) in
       let rest : length (x ++ z) ≡ 112 = length-append x z ∙ rw (length-init centres rate h, length-padded (quotient 0 1) 16 centres h) refl in
-      ap length (four a b c d (x ++ z)) ∙ length-append (((a ++ b) ++ c) ++ d) (x ++ z) ∙ rw (front, rest) refl
+      ap length (lists-split vs few centres x) ∙ length-append (front vs few centres) (x ++ z) ∙ rw (front-long vs few centres, rest) refl
 
   -- LAW
   pub fresh-centres : length centres ≤ 16 → listAt (freshVoice k es rate centres .lists) 10 ≡ padded 16 (quotient 0 1) centres
   unfolding freshVoice freshLists
   fresh-centres h =
       let vs = voiceEntries k es in
-      let a = column pitch vs in
-      let b = column (λ e. f32 (e .stretch)) vs in
-      let c = column (gainOf mainlobeKey) vs in
-      let d = column (gainOf noiseGainKey) vs in
-      let z = padded 16 (quotient 0 1) centres in
-      ap (λ (l : List Float). listAt l 10) (four a b c d (initFloats centres rate ++ z))
-      ∙ centres-at (((a ++ b) ++ c) ++ d) (initFloats centres rate) z (length-four a b c d (sized pitch) (sized (λ e. f32 (e .stretch))) (sized (gainOf mainlobeKey)) (sized (gainOf noiseGainKey)))
-      (length-init centres rate h) (length-padded (quotient 0 1) 16 centres h)
+      let x = initFloats centres rate in
+      ap (λ (l : List Float). listAt l 10) (lists-split vs few centres x)
+      ∙ centres-at (front vs few centres) x (padded 16 (quotient 0 1) centres) (front-long vs few centres) (length-init centres rate h) (length-padded (quotient 0 1) 16 centres h)
 
   -- place i of band b
   band-place : length centres ≤ 16 → (b i : ℕ) → b < 16 → i < 5

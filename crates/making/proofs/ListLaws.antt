@@ -16,10 +16,10 @@ use Rattle.voice.proofs.InitLaws.{init-of}
 use Rattle.making.specs.Making.{f32, gainOf, mainlobeKey, noiseGainKey, freshLists}
 
 -- four lists before others
-pub four : {A : Type 0} (a b c d rest : List A) → a ++ (b ++ (c ++ (d ++ rest))) ≡ (((a ++ b) ++ c) ++ d) ++ rest
+four : {A : Type 0} (a b c d rest : List A) → a ++ (b ++ (c ++ (d ++ rest))) ≡ (((a ++ b) ++ c) ++ d) ++ rest
 four a b c d rest = sym (append-assoc ((a ++ b) ++ c) d rest ∙ append-assoc (a ++ b) c (d ++ rest) ∙ append-assoc a b (c ++ (d ++ rest)))
 
-pub length-four : {A : Type 0} (a b c d : List A) → length a ≡ 16 → length b ≡ 16 → length c ≡ 16 → length d ≡ 16 → length (((a ++ b) ++ c) ++ d) ≡ 64
+length-four : {A : Type 0} (a b c d : List A) → length a ≡ 16 → length b ≡ 16 → length c ≡ 16 → length d ≡ 16 → length (((a ++ b) ++ c) ++ d) ≡ 64
 length-four a b c d h1 h2 h3 h4 = rw (length-append, length-append, length-append, h1, h2, h3, h4) refl
 
 -- LAW: the four lists of the entries, and the centres, put into lists that are all z
@@ -45,8 +45,8 @@ module _ (z : Float) (a b c d e r1 r2 r3 r4 r5 : List Float) where
       ∙ append-assoc p (replicate 96 z) e
       ∙ sym (four a b c d (replicate 96 z ++ e))
 
--- LAW: what `init` makes of lists that a fresh voice has but for its bands
-module _ (vs : List PitchEntry) (few : length vs ≤ 16) (centres : List Float) (j : ℕ) (as-many : length centres ≡ j) (most : j ≤ 16) where
+-- the short lists of a fresh voice, with any bands: the four lists of the entries, then the bands, then the centres
+module _ (vs : List PitchEntry) (few : length vs ≤ 16) (centres : List Float) where
   abbrev column : (PitchEntry → Float) → List Float
   column g = padded 16 (quotient 0 1) (map g vs)
 
@@ -56,20 +56,30 @@ module _ (vs : List PitchEntry) (few : length vs ≤ 16) (centres : List Float) 
       ++ (column (λ e. f32 (e .stretch))
       ++ (column (gainOf mainlobeKey) ++ (column (gainOf noiseGainKey) ++ (bands ++ padded 16 (quotient 0 1) centres))))
 
+  abbrev pub front : List Float
+  front = ((column (λ e. f32 (e .f0Hz)) ++ column (λ e. f32 (e .stretch))) ++ column (gainOf mainlobeKey)) ++ column (gainOf noiseGainKey)
+
   sized : (g : PitchEntry → Float) → length (column g) ≡ 16
   sized g = length-mapped g (quotient 0 1) 16 vs few
 
-  pub lists-init : (bands : List Float) (rate : Float) → length bands ≡ 96 → initLists (listsWith bands) j rate ≡ freshLists vs rate centres
+  pub front-long : length front ≡ 64
+  front-long =
+      length-four (column (λ e. f32 (e .f0Hz))) (column (λ e. f32 (e .stretch))) (column (gainOf mainlobeKey)) (column (gainOf noiseGainKey)) (sized (λ e. f32 (e .f0Hz)))
+      (sized (λ e. f32 (e .stretch))) (sized (gainOf mainlobeKey)) (sized (gainOf noiseGainKey))
+
+  pub lists-split : (bands : List Float) → listsWith bands ≡ front ++ (bands ++ padded 16 (quotient 0 1) centres)
+  lists-split bands =
+      four (column (λ e. f32 (e .f0Hz))) (column (λ e. f32 (e .stretch))) (column (gainOf mainlobeKey)) (column (gainOf noiseGainKey))
+      (bands ++ padded 16 (quotient 0 1) centres)
+
+  -- LAW: what `init` makes of them
+  pub lists-init : (j : ℕ) → length centres ≡ j → j ≤ 16 → (bands : List Float) (rate : Float) → length bands ≡ 96
+      → initLists (listsWith bands) j rate ≡ freshLists vs rate centres
   unfolding freshLists
-  lists-init bands rate h =
-      let a = column (λ e. f32 (e .f0Hz)) in
-      let b = column (λ e. f32 (e .stretch)) in
-      let c = column (gainOf mainlobeKey) in
-      let d = column (gainOf noiseGainKey) in
+  lists-init j as-many most bands rate h =
       let z = padded 16 (quotient 0 1) centres in
       let own = take-at centres _ j as-many in
-      ap (λ (l : List Float). initLists l j rate) (four a b c d (bands ++ z))
-      ∙ init-of (((a ++ b) ++ c) ++ d) bands z (length-four a b c d (sized (λ e. f32 (e .f0Hz))) (sized (λ e. f32 (e .stretch))) (sized (gainOf mainlobeKey)) (sized (gainOf noiseGainKey))) h
-      (length-padded (quotient 0 1) 16 centres (omega arith)) j rate
-      ∙ ap (λ (l : List Float). (((a ++ b) ++ c) ++ d) ++ (initFloats l rate ++ z)) own
-      ∙ sym (four a b c d (initFloats centres rate ++ z))
+      ap (λ (l : List Float). initLists l j rate) (lists-split bands)
+      ∙ init-of front bands z front-long h (length-padded (quotient 0 1) 16 centres (omega arith)) j rate
+      ∙ ap (λ (l : List Float). front ++ (initFloats l rate ++ z)) own
+      ∙ sym (lists-split (initFloats centres rate))

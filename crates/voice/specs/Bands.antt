@@ -18,11 +18,16 @@ coeffFloats c = c .b0 ∷ c .b1 ∷ c .b2 ∷ c .a1 ∷ c .a2 ∷ []
 abbrev pub bandFloats : List BiquadCoeffs → List Float
 bandFloats bands = joinTo (λ b. coeffFloats (getD bands b zeroCoeffs)) maxBands
 
--- lists 4 to 9 for these centres: the bands, then their compensations. Places past the centres are 0.
+-- the bands of these centres, and their compensations. Places past the centres are 0.
+abbrev pub initCoeffs : List Float → Float → List BiquadCoeffs
+initCoeffs centres rate = padded maxBands zeroCoeffs (map (λ c. bandFrom c rate .coeffs) centres)
+
+abbrev pub initCompensations : List Float → Float → List Float
+initCompensations centres rate = padded maxBands (quotient 0 1) (map (λ c. bandFrom c rate .compensation) centres)
+
+-- lists 4 to 9: one after the other
 unfoldable pub initFloats : List Float → Float → List Float
-initFloats centres rate =
-    bandFloats (padded maxBands zeroCoeffs (map (λ c. bandFrom c rate .coeffs) centres))
-    ++ padded maxBands (quotient 0 1) (map (λ c. bandFrom c rate .compensation) centres)
+initFloats centres rate = bandFloats (initCoeffs centres rate) ++ initCompensations centres rate
 
 -- the centres in use: the first j of their list
 abbrev pub ownCentres : List Float → ℕ → List Float
