@@ -1,0 +1,5 @@
+pub mod SearchLaws
+pub mod AnswerLaws
+pub mod WindowLaws
+pub mod GainLaws
+pub mod PlanLaws
