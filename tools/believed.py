@@ -1,6 +1,7 @@
 """Which definitions of specs/ a reader has to believe, read from their text: check_proofs.py uses it.
 
-To believe are those that a contract of a callable function, the claim or the bench examples cite, and those that these cite in turn.
+To believe are those that a contract of a callable function, the claim, the statements of what a plan leaves alone or the bench examples
+cite, and those that these cite in turn.
 They stand outside specs/inner; what only private functions and proofs cite stands inside. What is on the wrong side is a fault.
 """
 import re
@@ -10,7 +11,9 @@ import callable as functions
 
 EDGE = r'[^\s(){}\[\],;.«»⌜⌝`]'
 USE = re.compile(r'^(?:ghost )?(?:pub )?use Rattle·(\w+?)(?:·specs\.specs|·proofs\.proofs|\.specs)\.([\w.]+)\.\{(.*)\};?$', re.M)
-ASIDE = {('claim', 'Claim', 'Claim'), ('claim', 'Bench', 'Bench')}  # theorems in their own right
+# theorems in their own right
+ASIDE = {('claim', *name) for name in (('Claim', 'Claim'), ('Bench', 'Bench'), ('Quiet', 'GainsAside'), ('Quiet', 'PlanAside'),
+                                       ('Quiet', 'GainsAsideThroughout'))}
 WHOLE = {('float', 'Nearest')}  # files of which a law in its own right speaks: that the root is the nearest float
 
 

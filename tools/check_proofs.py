@@ -15,8 +15,8 @@ the root or from crates/.
 - Each must-fail edit of the crates must be cited.
 Each function of a library crate that another crate or C can call (tools/callable.py finds them) must have no `requires`, say something
 of its answer and of each `&mut` that it is lent, and have a row in docs/PROOFS.md under "Every callable function".
-Each definition that such a contract, the claim or the bench examples rest on must stand outside specs/inner, and each other one of the
-library crates inside (tools/believed.py).
+Each definition that such a contract, the claim, a statement beside it or the bench examples rest on must stand outside specs/inner, and
+each other one of the library crates inside (tools/believed.py).
 It prints how many names were checked, or a list of what is wrong, with status 1.
 """
 import re

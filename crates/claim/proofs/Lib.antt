@@ -6,4 +6,5 @@ pub mod Bands
 pub mod Moves
 pub mod Stands
 pub mod Theorem
+pub mod QuietLaws
 pub mod Examples

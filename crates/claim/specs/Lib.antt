@@ -2,3 +2,4 @@ pub mod Machine
 pub mod Calls
 pub mod Claim
 pub mod Bench
+pub mod Quiet
