@@ -1,6 +1,6 @@
 /* include/sounder.h against the library: sizes and offsets, a read, a refusal, a rewriting, and voices of both kinds: what a making puts
- * into each field, and blocks played and rates changed both ways, beside stored samples. compare/try_headers compiles it, also against
- * wrong headers; there without the sizes and offsets (VALUES_ALONE), so that the values alone have to tell. */
+ * into each field, and blocks played and rates changed both ways, beside stored samples; and plans of quiet windows. compare/try_headers
+ * compiles it, also against wrong headers; there without the sizes and offsets (VALUES_ALONE), so that the values alone have to tell. */
 #include "sounder.h"
 #include <math.h>
 #include <stdio.h>
@@ -70,6 +70,17 @@ AT(sounder_played_answer, voice, 8);
 SIZE(sounder_noise_power, 8);
 AT(sounder_noise_power, power, 0);
 AT(sounder_noise_power, n, 4);
+SIZE(sounder_window, 12);
+AT(sounder_window, start, 0);
+AT(sounder_window, end, 4);
+AT(sounder_window, step, 8);
+SIZE(sounder_plan, 772);
+_Static_assert(SOUNDER_PLAN_BYTES == 772 && SOUNDER_MAX_WINDOWS == 64, "SOUNDER_PLAN_BYTES, SOUNDER_MAX_WINDOWS");
+AT(sounder_plan, count, 0);
+AT(sounder_plan, windows, 4);
+SIZE(sounder_quiet_answer, 32);
+AT(sounder_quiet_answer, answer, 0);
+AT(sounder_quiet_answer, gain, 24);
 #endif
 
 static int failures;
@@ -393,6 +404,107 @@ static void check_voices(void)
     check_retune(&blend.voice, &blend_slow.voice, &after_retune[1]);
 }
 
+/* ---- quiet windows: a plan of three windows, and what would hold, or be refused, in the places beyond */
+static struct sounder_plan three_windows(void)
+{
+    struct sounder_plan plan = {.count = 3};
+    for (size_t i = 3; i < SOUNDER_MAX_WINDOWS; i++) {
+        plan.windows[i] = (struct sounder_window){.start = i % 2 ? 0 : 0xFFFFFFFFu, .end = 10079, .step = 7 + 1000 * (uint32_t)(i % 3)};
+    }
+    plan.windows[0] = (struct sounder_window){.start = 1320, .end = 1440, .step = 35};
+    plan.windows[1] = (struct sounder_window){.start = 10000, .end = 360, .step = 20};
+    plan.windows[2] = (struct sounder_window){.start = 300, .end = 1400, .step = 60};
+    return plan;
+}
+
+/* one answer: number, first and gain; the second value is always 0 */
+static void expect_gain(struct sounder_plan plan, uint32_t minute, uint32_t number, size_t first, float gain, const char *what)
+{
+    struct sounder_quiet_answer a = sounder_quiet_gain(plan, minute);
+    expect(is(a.answer, number, first, 0) && bits(a.gain) == bits(gain), what);
+}
+
+/* both edges of each window, and the first that holds */
+static void check_windows(void)
+{
+    struct sounder_plan plan = three_windows();
+    expect_gain(plan, 1319, 0, 2, 0.6f, "before a window another holds");
+    expect_gain(plan, 1320, 0, 0, 0.35f, "the minute of a start");
+    expect_gain(plan, 1399, 0, 0, 0.35f, "the first of two windows counts");
+    expect_gain(plan, 1439, 0, 0, 0.35f, "the minute before an end");
+    expect_gain(plan, 1440, 0, 3, 1, "the minute of an end");
+    expect_gain(plan, 9999, 0, 3, 1, "before a window over the week's end");
+    expect_gain(plan, 10000, 0, 1, 0.2f, "its start");
+    expect_gain(plan, 10079, 0, 1, 0.2f, "the week's last minute");
+    expect_gain(plan, 0, 0, 1, 0.2f, "the week's first minute");
+    expect_gain(plan, 359, 0, 1, 0.2f, "the minute before its end");
+    expect_gain(plan, 360, 0, 2, 0.6f, "its end");
+    plan.windows[0].start = plan.windows[0].end = 700;
+    expect_gain(plan, 700, 0, 2, 0.6f, "equal edges hold nothing");
+    plan.count = 0;
+    expect_gain(plan, 700, 0, 0, 1, "no windows");
+    /* one division: 20 * 0.01f is 3e4ccccc */
+    expect_bits(sounder_quiet_gain(three_windows(), 0).gain, 0x3e4ccccd, "gain of step", 20);
+}
+
+static void check_last_window(void)
+{
+    struct sounder_plan plan = {.count = 64};
+    struct sounder_window *last = &plan.windows[SOUNDER_MAX_WINDOWS - 1];
+    *last = (struct sounder_window){.start = 10079, .end = 0, .step = 100};
+    expect_gain(plan, 10079, 0, 63, 1, "the last of 64 windows");
+    last->step = 0;
+    expect_gain(plan, 10079, 0, 63, 0, "step 0");
+    expect_gain(plan, 10078, 0, 64, 1, "none of 64 windows");
+    last->step = 101;
+    expect_gain(plan, 10078, 19, 63, 1, "the last step");
+    last->end = 10080;
+    expect_gain(plan, 10078, 18, 63, 1, "the last edge");
+    plan.count = 63;
+    expect_gain(plan, 10078, 0, 63, 1, "a window past the last is not looked at");
+}
+
+/* each refusal at its limit, and their order; a refusal's gain is 1 */
+static void check_refused_plans(void)
+{
+    struct sounder_plan plan = three_windows();
+    expect_gain(plan, 10080, 20, 0, 1, "a minute past the week");
+    expect_gain(plan, 0x10000, 20, 0, 1, "a minute that 16 bits do not hold");
+    plan.windows[2].step = 101;
+    plan.windows[1].step = 100;
+    expect_gain(plan, 10080, 19, 2, 1, "a step above 100, asked before the minute");
+    plan.windows[1].step = 256;
+    expect_gain(plan, 0, 19, 1, 1, "a step that 8 bits do not hold");
+    plan.windows[2].end = 10080;
+    expect_gain(plan, 10080, 18, 2, 1, "an end above 10,079, asked before the steps");
+    plan.windows[1].start = 0x10000;
+    expect_gain(plan, 0, 18, 1, 1, "a start that 16 bits do not hold");
+    plan.count = 65;
+    expect_gain(plan, 10080, 18, 64, 1, "65 windows, asked first");
+    plan.count = 0x10003;
+    expect_gain(plan, 0, 18, 64, 1, "a count that 16 bits do not hold");
+}
+
+/* a block at the gain of a plan: other samples, and the same running state */
+static void check_quiet_block(void)
+{
+    const float centres[] = {500, 3000};
+    static float constant[8], loud[8], quiet[8];
+    make_table();
+    struct sounder_made_answer made = sounder_make(0, 1, table, table_len, 48000, centres, 2);
+    struct sounder_voice own = made.voice, other = made.voice;
+    struct sounder_shape with = {.samples = 8, .channels = 1, .g0 = 1}, without = {.samples = 8, .channels = 1};
+    for (size_t i = 0; i < 8; i++) {
+        constant[i] = sounder_quiet_gain(three_windows(), 1320).gain;
+    }
+    expect(sounder_play_in(&own, with, freq, 0, constant, 8, g1, 0, g2, 0, g3, 0, quiet, 8) == 0, "a block at a plan's gain");
+    expect(sounder_play_in(&other, without, freq, 0, g0, 0, g1, 0, g2, 0, g3, 0, loud, 8) == 0, "the same block without a plan");
+    expect(same_voice(&own, &other) && !same_voice(&own, &made.voice), "no running state depends on the plan");
+    for (size_t i = 0; i < 8; i++) {
+        expect(loud[i] != 0 && near(quiet[i], 0.35f * loud[i]), "a softer sample");
+    }
+}
+
 int main(void)
 {
     const size_t n = sizeof image, end = n - 1;
@@ -418,6 +530,10 @@ int main(void)
     expect(memcmp(target, whole, n) == 0, "the rewritten image");
     check_voices();
     check_numbers();
+    check_windows();
+    check_last_window();
+    check_refused_plans();
+    check_quiet_block();
     if (failures) {
         return 1;
     }

@@ -1,4 +1,4 @@
-/* The crossing sounder for C: images of coefficient tables, read and rewritten, and voices, made and played.
+/* The crossing sounder for C: images of coefficient tables, read and rewritten, voices, made and played, and how loud by the minute.
  *
  * Every function answers for every argument; none allocates, and none writes but to the target or the output that it is lent, or, of those
  * that are handed a pointer to a voice, to that voice. A slice is a pointer and a length in elements. A pointer may not be null, also where
@@ -32,7 +32,10 @@ extern "C" {
  *  14 the output is not a block of 0 to 128 samples by 1 to 8 channels, or not samples * channels long
  *  15 a connected input is not 1 to 8 channels of the block's length, or its slice is not that long
  *  16 a finite frequency is above 20,000
- *  17 the target does not hold the rewritten image */
+ *  17 the target does not hold the rewritten image
+ *  18 more than 64 windows, or an edge above 10,079   first: the first window with such an edge; 64 where there are more windows than 64
+ *  19 a loudness step above 100                       first: the first window with such a step
+ *  20 the minute of the week is above 10,079 */
 struct sounder_answer {
     uint32_t number;
     size_t first;
@@ -135,6 +138,39 @@ struct sounder_noise_power {
     uint32_t n;
 };
 
+/* A quiet window: from the minute of the week `start` on and before the minute `end` the pole sounds at `step` hundredths. Minutes are 0
+ * to 10,079; minute 0 is where your week starts, and the bundled programs start it on Monday at 00:00. With start above end it runs over
+ * the week's end, and with start equal to end it holds no minute. */
+struct sounder_window {
+    uint32_t start;
+    uint32_t end;
+    uint32_t step; /* 0 to 100 */
+};
+
+#define SOUNDER_MAX_WINDOWS 64
+
+/* A plan: the first `count` windows. The places beyond may hold anything: they are not looked at. All numbers have 32 bits, so that each is
+ * asked about as the planner wrote it: 65,596 minutes are refused, and do not become minute 60 on the way into a narrower field. */
+struct sounder_plan {
+    uint32_t count;
+    struct sounder_window windows[SOUNDER_MAX_WINDOWS];
+};
+
+/* How large a plan is, wherever it is compiled: there is no pointer in it, and nothing between its fields. */
+#define SOUNDER_PLAN_BYTES 772
+
+#if defined(__cplusplus) && __cplusplus >= 201103L
+static_assert(sizeof(struct sounder_plan) == SOUNDER_PLAN_BYTES, "struct sounder_plan has another size than the library's");
+#elif defined(__STDC_VERSION__) && __STDC_VERSION__ >= 201112L
+_Static_assert(sizeof(struct sounder_plan) == SOUNDER_PLAN_BYTES, "struct sounder_plan has another size than the library's");
+#endif
+
+/* The gain of a refusal is 1, so that a pole sounds as it does without a plan, and is never silent, where the number is not looked at. */
+struct sounder_quiet_answer {
+    struct sounder_answer answer;
+    float gain;
+};
+
 /* Reads an image. Accepted: first is the entry count, second the end of the last entry. */
 struct sounder_answer sounder_from_bytes(const uint8_t *image, size_t image_len);
 
@@ -183,6 +219,22 @@ struct sounder_played_answer sounder_reset(struct sounder_voice voice);
 struct sounder_played_answer sounder_reseed(struct sounder_voice voice, uint32_t seed);
 
 struct sounder_played_answer sounder_retune(struct sounder_voice voice, float sample_rate);
+
+/* The gain of a minute of the week by a plan: the first window that holds the minute gives step / 100, one division of floats, and where
+ * none does the gain is 1. Accepted: first is the index of the window that holds the minute, or plan.count where none does. Refused, each
+ * asked of the whole plan, in this order: 18, 19, 20. The windows are looked through three times at most, so the time goes by their number:
+ * on x86-64 some 50 ns and 1.4 for each window. It takes 1.6 KB of stack beside the plan's 772 bytes. A plan of zeros has no window.
+ *
+ * The gain is played with: input g0 becomes shape.samples times the gain, and shape.g0 1, which question 15 accepts.
+ *
+ *     float gain = sounder_quiet_gain(plan, minute).gain;
+ *     for (size_t i = 0; i < 128; i++) g0[i] = gain;
+ *     struct sounder_shape shape = {128, 1, 1, 1, 0, 0, 0};
+ *     uint32_t refused = sounder_play_in(&voice, shape, freq, 128, g0, 128, g0, 0, g0, 0, g0, 0, out, 128);
+ *
+ * Who plays with gains of their own multiplies each by it, of a blend all four; an unconnected g0 counts as 1, so it has to be connected.
+ * No gain enters the running state: phases, memories and noise number after a block are the same by every plan, and without one. */
+struct sounder_quiet_answer sounder_quiet_gain(struct sounder_plan plan, uint32_t minute);
 
 /* How loud white noise comes out of a band at centre freq with quality q: the sum of the squares of an impulse's response. n, the samples
  * summed, is 25 * max(q * sample_rate / (pi * max(freq, 1)), 1), its whole part, held to 64 to 2,000,000, for every argument. The power is

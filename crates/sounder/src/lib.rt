@@ -3,6 +3,7 @@
 mod answer;
 pub mod images;
 mod kind;
+pub mod plans;
 pub mod play_in;
 pub mod restart_in;
 pub mod retune_in;
@@ -11,4 +12,5 @@ pub mod voices;
 pub use answer::Answer;
 pub use images::DeskAnswer;
 pub use images::Place;
+pub use plans::QuietAnswer;
 pub use voices::MadeAnswer;
