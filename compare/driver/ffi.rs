@@ -23,6 +23,30 @@ pub struct DeskAnswer {
     pub max_hz: u32,
 }
 
+#[repr(C)]
+#[derive(Clone, Copy, Debug)]
+pub struct Window {
+    pub start: u32,
+    pub end: u32,
+    pub step: u32,
+}
+
+#[repr(C)]
+#[derive(Clone, Copy)]
+pub struct Plan {
+    pub count: u32,
+    pub windows: [Window; 64],
+}
+
+const _: () = assert!(size_of::<Plan>() == 772);
+
+#[repr(C)]
+#[derive(Clone, Copy, Debug)]
+pub struct QuietAnswer {
+    pub answer: Answer,
+    pub gain: f32,
+}
+
 mod c {
     use super::*;
     unsafe extern "C" {
@@ -30,6 +54,7 @@ mod c {
         pub fn sounder_name(image: *const u8, len: usize) -> Place;
         pub fn sounder_desk(kind: u32, channel: u32, image: *const u8, len: usize) -> DeskAnswer;
         pub fn sounder_to_bytes(image: *const u8, len: usize, target: *mut u8, target_len: usize) -> Answer;
+        pub fn sounder_quiet_gain(plan: Plan, minute: u32) -> QuietAnswer;
     }
 }
 
@@ -47,6 +72,10 @@ pub fn desk(kind: u32, channel: u32, image: &[u8]) -> DeskAnswer {
 
 pub fn to_bytes(image: &[u8], target: &mut [u8]) -> Answer {
     unsafe { c::sounder_to_bytes(image.as_ptr(), image.len(), target.as_mut_ptr(), target.len()) }
+}
+
+pub fn quiet_gain(plan: &Plan, minute: u32) -> QuietAnswer {
+    unsafe { c::sounder_quiet_gain(*plan, minute) }
 }
 
 // ---- voices

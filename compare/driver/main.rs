@@ -5,6 +5,7 @@ mod image;
 mod list;
 #[cfg(playing)]
 mod playing;
+mod quiet;
 mod race;
 mod rand;
 mod reading;
@@ -32,15 +33,22 @@ fn main() {
         playing::write_list(records, seed, &format!("{path}/playing"));
         return;
     }
-    let mut reading = Tally::default();
-    if !a.iter().any(|x| x == "--only-playing") {
+    // a part runs where it is the only one asked for, or none is
+    let runs = |part: &str| !a.iter().any(|x| x.starts_with("--only-")) || a.contains(&format!("--only-{part}"));
+    let (mut reading, mut plans) = (Tally::default(), Tally::default());
+    if runs("reading") {
         reading::run(cases as usize, seed, &mut reading);
         reading.print("reading");
+    }
+    if runs("plans") {
+        quiet::run(number("--plans", 10_000) as usize, seed, &mut plans);
+        let by = plans.by_number();
+        println!("plans: {} plans, {} minutes asked, answers by number{by}, {} differences", plans.cases, plans.calls, plans.differences);
     }
     #[allow(unused_mut)]
     let (mut playing, mut powers) = (Tally::default(), Tally::default());
     #[cfg(playing)]
-    if !a.iter().any(|x| x == "--only-reading") {
+    if runs("playing") {
         playing::run(number("--voices", 3000) as usize, seed, &mut playing);
         playing.print("playing");
         playing::powers(number("--powers", 10_000) as usize, seed, &mut powers);
@@ -59,9 +67,12 @@ fn main() {
             playing.add(&tally);
         }
     }
-    let differences = reading.differences + playing.differences + powers.differences;
+    let differences = reading.differences + plans.differences + playing.differences + powers.differences;
     let cases = reading.cases + playing.cases;
-    println!("compare: seed {seed}, {cases} cases, {} samples, {} noise powers, {differences} differences", playing.samples, powers.cases);
+    println!(
+        "compare: seed {seed}, {cases} cases, {} samples, {} noise powers, {} plans, {differences} differences",
+        playing.samples, powers.cases, plans.cases
+    );
     if differences > 0 {
         std::process::exit(1)
     }

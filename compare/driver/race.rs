@@ -37,6 +37,15 @@ impl Race {
         }
         println!("{what:<66} ours {a:>10.1} ns   the original {b:>10.1} ns   ratio {:>6.2}", b / a);
     }
+    // The same of what the original does not do.
+    pub fn alone(&self, what: &str, mut ours: impl FnMut()) {
+        if !self.runs(what) {
+            return;
+        }
+        let n = (ROUND_NS / time(3, &mut ours)).clamp(1.0, 100_000.0) as usize;
+        let least = (0..ROUNDS).map(|_| time(n, &mut ours)).fold(f64::MAX, f64::min);
+        println!("{what:<66} ours {least:>10.1} ns   the original has none");
+    }
 }
 
 pub fn entry(m: usize, k: u32, j: u32, pitch: f32) -> Entry {
@@ -100,6 +109,7 @@ pub fn run(race: &Race) {
             || drop(black_box(oracle::shim::read(black_box(image)).unwrap().to_bytes())),
         );
     }
+    crate::quiet::race(race);
     #[cfg(playing)]
     crate::playing::race(race);
 }

@@ -8,7 +8,7 @@ pub struct Tally {
     // expected answers that are document 01's where the original has none
     pub paper: u64,
     // answers by their number
-    pub numbers: [u64; 18],
+    pub numbers: [u64; 21],
 }
 
 impl Tally {
@@ -31,8 +31,12 @@ impl Tally {
             println!("difference: {what}\n  smallest found: {case}\n  there: {there}");
         }
     }
+    // The answers by their number.
+    pub fn by_number(&self) -> String {
+        self.numbers.iter().enumerate().filter(|(_, n)| **n > 0).map(|(i, n)| format!(" {i}:{n}")).collect()
+    }
     pub fn print(&self, what: &str) {
-        let by: String = self.numbers.iter().enumerate().filter(|(_, n)| **n > 0).map(|(i, n)| format!(" {i}:{n}")).collect();
+        let by = self.by_number();
         println!(
             "{what}: {} cases, {} calls, {} samples, {} answers written out from document 01, answers by number{by}, {} differences",
             self.cases, self.calls, self.samples, self.paper, self.differences

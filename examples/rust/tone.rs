@@ -1,4 +1,5 @@
-// The library from Rust: reads a table, makes a voice of it, plays a block, goes on at another sample rate, and prints the first samples.
+// The library from Rust: reads a table, makes a voice of it, plays a block, goes on at another sample rate, plays softer by a plan of quiet
+// windows, and prints the first samples.
 // Build it beside the static library (`rt staticlib sounder`):
 //   rustc -O --edition 2024 -C link-arg=target/staticlib/libsounder.a -o target/tone examples/rust/tone.rs
 // include/sounder.h says what each function promises; the declarations below are the same.
@@ -81,6 +82,33 @@ struct PlayedAnswer {
     voice: Voice,
 }
 
+// From the minute of the week `start` on and before `end`, at `step` hundredths.
+#[repr(C)]
+#[derive(Clone, Copy)]
+struct Window {
+    start: u32,
+    end: u32,
+    step: u32,
+}
+
+// The first `count` windows; the rest is not looked at.
+#[repr(C)]
+#[derive(Clone, Copy)]
+struct Plan {
+    count: u32,
+    windows: [Window; 64],
+}
+
+// SOUNDER_PLAN_BYTES
+const _: () = assert!(size_of::<Plan>() == 772);
+
+#[repr(C)]
+#[derive(Debug)]
+struct QuietAnswer {
+    answer: Answer,
+    gain: f32,
+}
+
 unsafe extern "C" {
     fn sounder_from_bytes(image: *const u8, len: usize) -> Answer;
     fn sounder_desk(kind: u32, channel: u32, image: *const u8, len: usize) -> DeskAnswer;
@@ -96,6 +124,7 @@ unsafe extern "C" {
         g2: *const f32, g2_len: usize, g3: *const f32, g3_len: usize, out: *mut f32, out_len: usize,
     ) -> u32;
     fn sounder_retune_in(voice: *mut Voice, rate: f32) -> u32;
+    fn sounder_quiet_gain(plan: Plan, minute: u32) -> QuietAnswer;
 }
 
 // A table with one entry of pitch 880: one channel, three partials and a noise band.
@@ -121,13 +150,13 @@ fn image() -> Vec<u8> {
 // The slice of an input that is not connected: its pointer may not be null.
 const NONE: (*const f32, usize) = ([].as_ptr(), 0);
 
-// A block of the voice where it lies; the gains are not connected.
+// A block of the voice where it lies: gain 0 is connected where its slice is not empty, the others are not.
 #[rustfmt::skip]
-fn play_in(voice: &mut Voice, shape: Shape, freq: &[f32], out: &mut [f32]) -> u32 {
+fn play_in(voice: &mut Voice, shape: Shape, freq: &[f32], gain: &[f32], out: &mut [f32]) -> u32 {
     unsafe {
         sounder_play_in(
-            voice, shape, freq.as_ptr(), freq.len(), NONE.0, NONE.1, NONE.0, NONE.1, NONE.0, NONE.1, NONE.0, NONE.1,
-            out.as_mut_ptr(), out.len(),
+            voice, Shape { g0: !gain.is_empty() as usize, ..shape }, freq.as_ptr(), freq.len(), gain.as_ptr(), gain.len(),
+            NONE.0, NONE.1, NONE.0, NONE.1, NONE.0, NONE.1, out.as_mut_ptr(), out.len(),
         )
     }
 }
@@ -164,7 +193,7 @@ fn main() {
 
     // the same block of the voice where it lies, which moves on: the way of a host that plays many short blocks
     let (mut own, mut heard) = (made.voice, [0f32; 128]);
-    let number = play_in(&mut own, shape, &freq, &mut heard);
+    let number = play_in(&mut own, shape, &freq, &[], &mut heard);
     println!("played in place: {number}, {:?}", &heard[..6]);
     assert!(number == 0 && heard == out && own.state.noise == played.voice.state.noise && own.state.phases == played.voice.state.phases);
 
@@ -176,7 +205,21 @@ fn main() {
     // a rate that no voice has is refused, and the voice stays as it is
     let refused = unsafe { sounder_retune_in(&mut own, 7999.0) };
     assert!(refused == 11 && own.sample_rate == 44100.0);
-    let number = play_in(&mut own, shape, &freq, &mut heard);
+    let number = play_in(&mut own, shape, &freq, &[], &mut heard);
     println!("played on: {number}, {:?}", &heard[..6]);
     assert!(number == 0 && heard.iter().all(|y| y.is_finite()) && heard != out);
+
+    // Monday 22:00 to Tuesday 06:00 at 30 of 100, and the night over the week's end at 20: the gain of Monday 23:00 goes into gain 0
+    let mut plan = Plan { count: 2, windows: [Window { start: 1320, end: 1800, step: 30 }; 64] };
+    plan.windows[1] = Window { start: 9960, end: 360, step: 20 };
+    let quiet = unsafe { sounder_quiet_gain(plan, 1380) };
+    println!("quiet: {quiet:?}");
+    assert!(quiet.answer == Answer { number: 0, first: 0, second: 0 } && quiet.gain == 30.0 / 100.0);
+    let (mut soft, mut softly) = (own, [0f32; 128]);
+    let number = play_in(&mut soft, shape, &freq, &[quiet.gain; 128], &mut softly);
+    play_in(&mut own, shape, &freq, &[], &mut heard);
+    println!("played softly: {number}, {:?}", &softly[..6]);
+    assert!(number == 0 && softly.iter().zip(&heard).all(|(a, b)| (a - 0.3 * b).abs() < 1e-6));
+    // the voice is the one that plays without a plan
+    assert!(soft.state.phases == own.state.phases && soft.state.memories == own.state.memories && soft.state.noise == own.state.noise);
 }
