@@ -1,4 +1,4 @@
-"""The command line of the tools that make stored files: make_examples.py, run_list_images.py and float_answers.py."""
+"""The command line of the tools that make stored files: make_examples.py, run_list_images.py, float_answers.py and quiet_answers.py."""
 import sys
 from pathlib import Path
 

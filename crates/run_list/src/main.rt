@@ -1,7 +1,10 @@
 // Runs at the limits: each line is what was asked, and the number of the answer (0: accepted). The expected lines in `stdout` are document
-// 01's, and card 1's of document 02.
+// 01's, and of document 02 those of cards 1 and 2.
 mod images;
 
+use quiet::Plan;
+use quiet::Window;
+use sounder::plans::sounder_quiet_gain;
 use sounder::voices::sounder_make;
 use sounder::voices::sounder_play;
 use sounder::voices::sounder_retune;
@@ -231,9 +234,59 @@ fn floats() {
     at_gain(b"an infinite gain on silence", v, -220.0, infinite);
 }
 
+// A minute of a plan whose windows, and places beyond them, are all alike.
+fn planned(what: &[u8], count: u32, start: u32, end: u32, step: u32, minute: u32) {
+    let plan = Plan {
+        count,
+        windows: [Window { start, end, step }; 64],
+    };
+    let q = sounder_quiet_gain(plan, minute);
+    let a = q.answer;
+    say(what, a.number);
+}
+
+fn plans() {
+    planned(b"64 windows", 64, 0, 10079, 100, 0);
+    planned(b"65 windows", 65, 0, 10079, 100, 0);
+    planned(b"a start of 10079", 1, 10079, 0, 50, 0);
+    planned(b"a start of 10080", 1, 10080, 0, 50, 0);
+    planned(b"an end of 10079", 1, 0, 10079, 50, 0);
+    planned(b"an end of 10080", 1, 0, 10080, 50, 0);
+    planned(b"a step of 100", 1, 0, 60, 100, 0);
+    planned(b"a step of 101", 1, 0, 60, 101, 0);
+    planned(b"minute 10079", 1, 0, 60, 50, 10079);
+    planned(b"minute 10080", 1, 0, 60, 50, 10080);
+    planned(
+        b"65 windows, steps of 101, minute 10080",
+        65,
+        0,
+        60,
+        101,
+        10080,
+    );
+    planned(
+        b"an end of 10080, a step of 101, minute 10080",
+        1,
+        0,
+        10080,
+        101,
+        10080,
+    );
+    planned(b"a step of 101, minute 10080", 1, 0, 60, 101, 10080);
+    planned(
+        b"edges of 10080 and steps of 101 past the windows",
+        0,
+        10080,
+        10080,
+        101,
+        0,
+    );
+}
+
 fn main() {
     makings();
     blocks();
     floats();
     retunes();
+    plans();
 }
