@@ -18,18 +18,10 @@ use Rattle.console.specs.declared.centres.Line.{Line}
 use Rattle.console.specs.declared.centres.Reader.{Reader}
 use Rattle.console.specs.Decimal.{startScan, nextScan, scanned, concluded, readOf}
 use Rattle.console.specs.Narrow.{valueOf}
-use Rattle.console.specs.Centres.{inFront, linesOf, plain, noCentres, faultyCentres, withCentre, withNumber, withLine, afterLine, afterLines, centresOf}
+use Rattle.console.specs.Pieces.{inFront, piecesOf, linesOf}
+use Rattle.console.specs.Centres.{plain, noCentres, faultyCentres, withCentre, withNumber, withLine, afterLine, afterLines, centresOf}
+use Rattle.console.proofs.Cases.{either, both}
 use Rattle.console.specs.Reader.{startLine, commentLine, numberLine, firstLine, longerLine, lineSaid, lineEnded, startReader, nextReader, readOn}
-
--- a test that decides nothing
-either : {A : Type 0} (t : Bool) (a : A) → cond t a a ≡ a
-either true a = refl
-either false a = refl
-
--- what holds of both answers of a test
-both : (P : Bool → Type 0) (t : Bool) → P true → P false → P t
-both P true x y = x
-both P false x y = y
 
 -- the bytes of a line in turn
 unfoldable lined : Line → List ℕ → Line
@@ -104,7 +96,7 @@ resumed-front c n l b (x ∷ xs) = refl
 
 read-on-resumed : (c : Centres) (n : ℕ) (l : Line) (text : List ℕ) →
     readOn (record { centres = c; above = n; line = l }) text ≡ resumed c n l (linesOf text)
-unfolding readOn nextReader linesOf afterLines lined resumed
+unfolding readOn nextReader piecesOf afterLines lined resumed
 read-on-resumed c n l [] = refl
 read-on-resumed c n l (b ∷ bs) =
     both (λ t.

@@ -2,5 +2,9 @@ pub mod NarrowLaws
 pub mod FixedLaws
 pub mod ScanLaws
 pub mod Parts
+pub mod Cases
 pub mod CentresLaws
 pub mod CentresExamples
+pub mod PiecesLaws
+pub mod PlansLaws
+pub mod PlansExamples

@@ -10,20 +10,11 @@ use Rattle.console.specs.declared.decimal.DecimalRead.{DecimalRead}
 use Rattle.console.specs.declared.centres.Centres.{Centres}
 use Rattle.console.specs.Decimal.{readOf}
 use Rattle.console.specs.Narrow.{valueOf}
+use Rattle.console.specs.Pieces.{linesOf}
 
 -- at most as many as there are places
 abbrev pub Few : Centres → Type 0
 Few c = c .count ≤ 16
-
--- a byte in front of the first line
-abbrev pub inFront : ℕ → List (List ℕ) → List (List ℕ)
-inFront b [] = (b ∷ []) ∷ []
-inFront b (l ∷ ls) = (b ∷ l) ∷ ls
-
--- the lines of a text: a line feed (10) stands between two
-unfoldable pub linesOf : List ℕ → List (List ℕ)
-linesOf [] = [] ∷ []
-linesOf (b ∷ bs) = cond (eqb b 10) ([] ∷ linesOf bs) (inFront b (linesOf bs))
 
 -- a line without its carriage returns (13)
 unfoldable pub plain : List ℕ → List ℕ

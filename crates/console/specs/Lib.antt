@@ -2,5 +2,8 @@ pub mod Decimal
 pub mod Narrow
 pub mod Fixed
 pub mod File
+pub mod Pieces
 pub mod Centres
 pub mod Reader
+pub mod Edges
+pub mod Plans

@@ -211,16 +211,9 @@ pub fn values(c: Centres) -> [f32; 16]
     places(v)
 }
 
-// Says the name of the file of centres.
-fn say_file(argument: usize) {
-    let mut path = io::buffer();
-    let n = os::arg(argument, &mut path);
-    say::name(2, &path[..n]);
-}
-
 // Says which line is no centre, and why.
 fn say_fault(argument: usize, c: Centres) {
-    say_file(argument);
+    say::argument(2, argument);
     say::text(2, b": line ");
     say::number(2, std::num::wrapping_add_usize(c.above, 1) as u64);
     if c.many {
@@ -248,7 +241,7 @@ pub fn from_argument(argument: usize) -> Centres
     }
     let k = r.bytes;
     if k == 4096 {
-        say_file(argument);
+        say::argument(2, argument);
         say::text(
             2,
             b": longer than 4095 bytes, and a file of centres is not\n",

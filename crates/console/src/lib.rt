@@ -1,8 +1,10 @@
 // What the programs share: decimal numbers read and printed, the words for a refusal, files and arguments.
 pub mod centres;
 pub mod decimal;
+mod edges;
 pub mod file;
 pub mod fixed;
 pub mod narrow;
+pub mod plans;
 pub mod say;
 pub mod words;

@@ -127,6 +127,13 @@ pub fn name(fd: i32, s: &[u8]) {
     }
 }
 
+// An argument by its number on the command line, as a name.
+pub fn argument(fd: i32, i: usize) {
+    let mut word = io::buffer();
+    let n = os::arg(i, &mut word);
+    name(fd, &word[..n]);
+}
+
 // A file's name, and why the call before failed: a write that succeeds leaves errno alone.
 pub fn failed(path: &[u8]) {
     name(2, path);

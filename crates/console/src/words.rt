@@ -1,4 +1,4 @@
-// What a refusal means, in words. The numbers are document 01's.
+// What a refusal means, in words. The numbers 1 to 17 are document 01's, and 18 to 20 document 02's.
 use crate::say;
 use sounder::Answer;
 
@@ -79,7 +79,29 @@ fn playing(fd: i32, number: u32) {
         14 => say::text(fd, b"the block is not 0 to 128 samples by 1 to 8 channels"),
         15 => say::text(fd, b"an input is not of the block's length"),
         16 => say::text(fd, b"a frequency is above 20000 Hz"),
-        17 => say::text(fd, b"the target is too short for the rewritten table"),
+        _ => say::text(fd, b"the target is too short for the rewritten table"),
+    }
+}
+
+// The words for questions 18 to 20, of a plan of quiet windows. Windows are counted from 0, so 64 is the first without a place.
+fn plan(fd: i32, a: Answer) {
+    let number = a.number;
+    match number {
+        18 => {
+            if a.first == 64 {
+                say::text(fd, b"the plan has more than 64 windows");
+            } else {
+                say::text(fd, b"window ");
+                say::number(fd, a.first as u64);
+                say::text(fd, b" has an edge above 10079, the last minute of the week");
+            }
+        }
+        19 => {
+            say::text(fd, b"window ");
+            say::number(fd, a.first as u64);
+            say::text(fd, b" has a loudness step above 100");
+        }
+        20 => say::text(fd, b"the minute is above 10079, the last of the week"),
         _ => say::text(fd, b"no refusal has this number"),
     }
 }
@@ -95,7 +117,11 @@ pub fn refusal(fd: i32, a: Answer) {
         if a.number < 13 {
             making(fd, a);
         } else {
-            playing(fd, a.number);
+            if a.number < 18 {
+                playing(fd, a.number);
+            } else {
+                plan(fd, a);
+            }
         }
     }
 }

@@ -35,8 +35,8 @@ returns-2 c =
     rw (c .faulty .ensures) (omega arith)
 
 -- src/centres.rt:254:9
-say-file-requires : tie.Need-say-file-requires
-say-file-requires c κs = search needs
+argument-requires : tie.Need-argument-requires
+argument-requires c κs = search needs
 
 -- src/centres.rt:246:22
 slice-aggregate-text : tie.Need-slice-aggregate-text
@@ -94,7 +94,7 @@ from-argument-spec =
     read-argument-requires
     faulty-requires
     returns-2
-    say-file-requires
+    argument-requires
     slice-aggregate-text
     text-requires
     faulty-requires-2
