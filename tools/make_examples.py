@@ -1,5 +1,5 @@
 #!/usr/bin/env python3
-"""Makes the example tables and their band centres in examples/.
+"""Makes the example tables, their band centres and a plan of quiet windows in examples/.
 
     tools/make_examples.py            writes the files
     tools/make_examples.py --check    compares them with what it would write; status 1 where one differs
@@ -127,6 +127,32 @@ def channels():
     return table('channels', [one[:12] + struct.pack('<I', 0xFFFFFFFF) + one[16:]])
 
 
+NIGHTS = """\
+# Quiet windows of the poles at Mill Street, by the minute of the week.
+#
+# A line is START END STEP: from START on and before END a pole sounds by STEP hundredths of its gain, and outside of all
+# windows as loud as without a plan. START and END are a day and a clock, or a minute of the week: 0 is Monday 00:00, and
+# 10079 Sunday 23:59. Where windows overlap the first line counts, so what is special stands above what is usual.
+
+# the market of Saturday: a little softer from 20:00, and not as soft as a night before it closes at 23:30
+Sat 20:00 Sat 23:30 80
+
+# nights from Monday to Friday, from 22:00; the last is longer
+Mon 22:00 Tue 06:00 30
+Tue 22:00 Wed 06:00 30
+Wed 22:00 Thu 06:00 30
+Thu 22:00 Fri 06:00 30
+Fri 22:00 Sat 07:00 30
+
+# the week-end's nights start sooner; that of Sunday runs over the week's end to Monday
+Sat 21:00 Sun 08:00 30
+Sun 21:00 Mon 06:00 30
+
+# the service on Sunday morning, 10:00 to 11:15: no sound at all (minutes of the week do as well)
+9240 9315 0
+"""
+
+
 def files():
     run, here = 'crates/inspect/data/', 'examples/'
     return {
@@ -142,6 +168,8 @@ def files():
         here + 'green-man.msct': green_man(),
         here + 'green-man.centres': centres_file('green-man.msct', 6, 80.0, 12000.0).encode(),
         here + 'plain-beep.msct': pelican(),
+        here + 'nights.plan': NIGHTS.encode(),
+        'crates/tone/data/nights.plan': NIGHTS.encode(),
     }
 
 

@@ -2,7 +2,7 @@
 """Plays a table as document 01 defines it, apart from the library, and prints what tone prints last: samples, peak and CRC-32 of the WAV.
 
     tools/play.py TABLE [--single N | --blend] [--rate HZ] [--freq HZ] [--to HZ] [--gain G ..] [--seconds S] [--seed N] [--centres FILE]
-                  [--retune HZ [--at S]]
+                  [--retune HZ [--at S]] [--plan FILE --minute M]
 
 Every operation on a float is worked out in double precision and rounded to f32 once: sums, differences, products, quotients and roots
 of f32 come out as IEEE 754 has them, since double precision has more than twice the digits. With --words NAME it prints all that tone
@@ -10,6 +10,7 @@ writes to standard output for a file of that name: crates/tone/stdout was made s
 """
 import argparse
 import math
+import re
 import struct
 import sys
 import zlib
@@ -146,6 +147,51 @@ def bracket(pitches, f0):
     return lo, hi, f(f(f0 - pitches[lo]) / f(pitches[hi] - pitches[lo]))
 
 
+# ---- quiet windows
+DAYS = 'Mon', 'Tue', 'Wed', 'Thu', 'Fri', 'Sat', 'Sun'
+GAP = '[ \t\r]+'
+EDGE = rf'(?:([0-9]+)\.?|({"|".join(DAYS)}){GAP}([01][0-9]|2[0-3]):([0-5][0-9]))'
+WINDOW = re.compile(rf'{EDGE}{GAP}{EDGE}{GAP}([0-9]+)\.?')
+
+
+def minute_of(number, day, hours, minutes):
+    """The minute of the week that the parts of an edge name."""
+    return int(number) if day is None else (DAYS.index(day) * 24 + int(hours)) * 60 + int(minutes)
+
+
+def windows(text):
+    """The windows of a plan's text, each after the number of its line: start, end, step."""
+    found = []
+    for n, line in enumerate(text.split('\n'), 1):
+        line = line.strip(' \t\r')
+        if line and not line.startswith('#'):
+            parts = WINDOW.fullmatch(line)
+            assert parts, f'line {n} is no window'
+            parts = parts.groups()
+            found.append((n, minute_of(*parts[:4]), minute_of(*parts[4:8]), int(parts[8])))
+    return found
+
+
+def held(plan, minute):
+    """The first window that holds a minute, or None. The questions of document 02 come before."""
+    edges = [n for n, start, end, _ in plan if max(start, end) > 10079]
+    steps = [n for n, _, _, step in plan if step > 100]
+    assert len(plan) <= 64, f'line {plan[64][0]}: refusal 18'
+    assert not edges, f'line {edges[0]}: refusal 18'
+    assert not steps, f'line {steps[0]}: refusal 19'
+    assert minute <= 10079, 'refusal 20'
+    for window in plan:
+        _, start, end, _ = window
+        # the minutes from the start on, around the week's end, up to the end
+        if (minute - start) % 10080 < (end - start) % 10080:
+            return window
+    return None
+
+
+def clock(minute):
+    return f'{DAYS[minute // 1440]} {minute // 60 % 24:02d}:{minute % 60:02d}'
+
+
 class Voice:
     """A voice of one channel, or a blend."""
 
@@ -250,7 +296,7 @@ def status(work, words):
         print(f'{e.filename or "standard output"}: {e.strerror}', file=sys.stderr)
     except (AssertionError, ValueError, struct.error, IndexError) as e:
         why = str(e) or 'the mark or the version is another'
-        print(f'no table that can be played, or no centres for it: {why}', file=sys.stderr)
+        print(f'no table that can be played, or no centres or plan for it: {why}', file=sys.stderr)
     return 1
 
 
@@ -268,10 +314,15 @@ def main(words):
     p.add_argument('--centres')
     p.add_argument('--retune', type=int)
     p.add_argument('--at')
+    p.add_argument('--plan')
+    p.add_argument('--minute')
     p.add_argument('--words')
     o = p.parse_args(words)
     if o.at is not None and (o.retune is None or millionths(o.seconds) < millionths(o.at)):
         p.error('--at is the time of a --retune, and at most --seconds')
+    edge = re.fullmatch(EDGE, o.minute.strip(' \t\r')) if o.minute is not None else None
+    if (o.plan is None) != (o.minute is None) or (o.minute is not None and not edge):
+        p.error('--plan and --minute go together; the minute is a whole number, or a day and a clock')
     freq = 220.0 if o.freq is None else o.freq
     centres = [decimal(l.strip()) for l in open(o.centres) if l.strip() and not l.startswith('#')] if o.centres else []
     v = Voice(table(open(o.table, 'rb').read()), None if o.blend else o.single, float(o.rate), centres)
@@ -280,6 +331,11 @@ def main(words):
     total = millionths(o.seconds) * o.rate // 1000000
     change = total // 2 if o.at is None else millionths(o.at) * o.rate // 1000000
     gains = o.gain + [1.0, 0.0, 0.0, 0.0][len(o.gain):]
+    if o.plan is not None:
+        minute = minute_of(*edge.groups())
+        window = held(windows(open(o.plan, newline='', encoding='latin-1').read()), minute)
+        quiet = f(window[3] / 100) if window else 1.0
+        gains = [f(g * quiet) for g in gains]
     out = []
     for n in range(total):
         if o.retune is not None and n == change:
@@ -295,6 +351,9 @@ def main(words):
         print(f'pitch {freq:.6f}' + (f' to {o.to:.6f}' if o.to is not None else '') + ' Hz' + (' (no --freq was given)' if o.freq is None else ''))
         if v.k < len(o.gain):
             print(f'the voice has {counted(v.k, "channel")}: the gains beyond are not heard')
+        if o.plan is not None:
+            place = f'line {window[0]}, {clock(window[1])} to {clock(window[2])}' if window else 'no window'
+            print(f'plan: {clock(minute)} is in {place}: gain {quiet:.6f}')
         blocks = -(-total // 128)
         tenths = [d for d in range(1, blocks + 1) if (d - 1) * 10 // blocks < d * 10 // blocks]
         lines = [(min(d * 128, total), f'played {min(d * 128, total)} of {counted(total, "sample")}') for d in tenths]

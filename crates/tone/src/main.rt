@@ -8,6 +8,7 @@
 mod crc;
 mod options;
 mod output;
+mod plan;
 mod playing;
 mod sink;
 mod wav;
@@ -17,6 +18,7 @@ use console::file;
 use console::say;
 use console::words;
 use options::Options;
+use plan::Loudness;
 use playing::bits;
 use sounder::Answer;
 use sounder::images::sounder_desk;
@@ -62,6 +64,14 @@ fn usage() {
     say::text(
         1,
         b"  --at S          when, in seconds from the start (half of the way)\n",
+    );
+    say::text(
+        1,
+        b"  --plan FILE     quiet windows, a line each: START END STEP, in minutes of the week or as Mon 22:00 Tue 06:00 30\n",
+    );
+    say::text(
+        1,
+        b"  --minute M      the minute that the plan is asked for, 0 to 10079 or \"Mon 22:00\"; gains are multiplied by STEP / 100\n",
     );
     say::text(
         1,
@@ -166,7 +176,7 @@ fn play_voice(o: Options, voice: Voice) {
     }
 }
 
-fn play_image(o: Options, image: &[u8], centres: &[f32]) {
+fn play_image(o: Options, image: &[u8], centres: &[f32], l: Loudness) {
     let read = sounder_from_bytes(image);
     if read.number != 0 {
         words::refusal(2, read);
@@ -198,7 +208,12 @@ fn play_image(o: Options, image: &[u8], centres: &[f32]) {
     describe(image, read.first, set.m, set.j);
     describe_pitch(o);
     describe_gains(o, set.k);
-    play_voice(o, voice);
+    if o.plan == 0 {
+        play_voice(o, voice);
+    } else {
+        plan::describe(o.minute, l);
+        play_voice(plan::with_gain(o, l), voice);
+    }
 }
 
 fn run(o: Options) {
@@ -214,7 +229,11 @@ fn run(o: Options) {
     }
     let values = centres::values(c);
     let k = c.count;
-    play_image(o, &image[..n], &values[..k]);
+    let l = plan::at_minute(o.plan, o.minute);
+    if l.failed {
+        return;
+    }
+    play_image(o, &image[..n], &values[..k], l);
 }
 
 // Whether standard output is open. Where it is not, the file that is made would get its number, and what is said there would go into it.

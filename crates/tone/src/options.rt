@@ -4,6 +4,7 @@ use console::decimal::Decimal;
 use console::decimal::DecimalRead;
 use console::decimal::Whole;
 use console::narrow::value;
+use console::plans;
 use console::say;
 
 // Arguments by their number on the command line, 0 where there is none. `skip` says that the next argument was a value, `given` which
@@ -28,8 +29,11 @@ pub struct Options {
     pub retunes: bool,
     pub at: u64, // millionths of a second
     pub at_given: bool,
+    pub plan: usize,
+    pub minute: u32,
+    pub minute_given: bool,
     pub skip: bool,
-    pub given: [bool; 12],
+    pub given: [bool; 14],
     pub help: bool,
     pub failed: bool,
 }
@@ -55,8 +59,11 @@ fn defaults() -> Options {
         retunes: false,
         at: 0,
         at_given: false,
+        plan: 0,
+        minute: 0,
+        minute_given: false,
         skip: false,
-        given: [false; 12],
+        given: [false; 14],
         help: false,
         failed: false,
     }
@@ -73,7 +80,7 @@ fn wrong(mut o: Options, word: &[u8], why: &[u8]) -> Options {
     o
 }
 
-// The options by number: 1 to 10 take a value.
+// The options by number: 1 to 12 take a value.
 fn which(word: &[u8]) -> u32 {
     if check::same(word, b"--single") {
         return 1;
@@ -105,8 +112,14 @@ fn which(word: &[u8]) -> u32 {
     if check::same(word, b"--at") {
         return 10;
     }
-    if check::same(word, b"--blend") {
+    if check::same(word, b"--plan") {
         return 11;
+    }
+    if check::same(word, b"--minute") {
+        return 12;
+    }
+    if check::same(word, b"--blend") {
+        return 13;
     }
     0
 }
@@ -123,6 +136,8 @@ fn say_option(option: u32) {
         8 => say::text(2, b"--centres"),
         9 => say::text(2, b"--retune"),
         10 => say::text(2, b"--at"),
+        11 => say::text(2, b"--plan"),
+        12 => say::text(2, b"--minute"),
         _ => say::text(2, b"--blend"),
     }
 }
@@ -157,7 +172,7 @@ fn wrong_value(mut o: Options, option: u32, text: &[u8], why: &[u8]) -> Options 
 
 // Notes that an option was given. Only a gain may be given more than once.
 fn note(mut o: Options, option: u32, word: &[u8]) -> Options {
-    if 11 < option {
+    if 13 < option {
         return o;
     }
     let n = option as usize;
@@ -278,32 +293,67 @@ fn set_decimal(mut o: Options, option: u32, text: &[u8]) -> Options {
     }
 }
 
-// The file of centres, which argument `i` names.
-fn set_centres(mut o: Options, i: usize) -> Options {
+// A minute of the week, as a plan's file has it.
+fn set_minute(mut o: Options, text: &[u8]) -> Options {
+    match plans::minute(text) {
+        Whole::Refused => wrong_value(
+            o,
+            12,
+            text,
+            b"neither a minute of the week, 0 to 10079, nor a day and a clock, as \"Mon 22:00\"",
+        ),
+        Whole::Number(m) => {
+            o.minute = m;
+            o.minute_given = true;
+            o
+        }
+    }
+}
+
+// Says what is wrong with an option whose value cannot be printed.
+fn wrong_file(mut o: Options, option: u32, why: &[u8]) -> Options {
+    say::text(2, b"tone: ");
+    say_option(option);
+    say::text(2, b": ");
+    say::text(2, why);
+    say::text(2, b"\n");
+    o.failed = true;
+    o
+}
+
+// The file of centres or of a plan, which argument `i` names.
+fn set_file(mut o: Options, option: u32, i: usize) -> Options {
     let mut word = io::buffer();
     let n = os::arg(i, &mut word);
     if os::errno() != 0 {
-        return wrong(o, b"--centres", b"its value is longer than 4096 bytes");
+        return wrong_file(o, option, b"its value is longer than 4096 bytes");
     }
     if n == 0 {
-        return wrong(o, b"--centres", b"its value is empty, and names no file");
+        return wrong_file(o, option, b"its value is empty, and names no file");
     }
     if is_option(&word[..n]) {
         return wrong_value(
             o,
-            8,
+            option,
             &word[..n],
             b"its value is missing (write ./ before a file's name that starts with -)",
         );
     }
-    o.centres = i;
+    if option == 8 {
+        o.centres = i;
+    } else {
+        o.plan = i;
+    }
     o
 }
 
 // An option with the value that stands in argument `i`.
 fn set(mut o: Options, option: u32, i: usize) -> Options {
     if option == 8 {
-        return set_centres(o, i);
+        return set_file(o, option, i);
+    }
+    if option == 11 {
+        return set_file(o, option, i);
     }
     let mut text = [0u8; 64];
     let n = os::arg(i, &mut text);
@@ -326,6 +376,9 @@ fn set(mut o: Options, option: u32, i: usize) -> Options {
     }
     if option == 9 {
         return set_whole(o, option, &text[..n]);
+    }
+    if option == 12 {
+        return set_minute(o, &text[..n]);
     }
     set_decimal(o, option, &text[..n])
 }
@@ -363,7 +416,7 @@ fn take_word(mut o: Options, word: &[u8], i: usize, count: usize) -> Options {
         );
     }
     o = note(o, option, word);
-    if option == 11 {
+    if option == 13 {
         o.blend = 1;
         return o;
     }
@@ -412,6 +465,28 @@ fn time_goes(o: Options) -> bool {
     true
 }
 
+// Whether a plan and a minute were given, or neither; what is missing has been said.
+fn plan_goes(o: Options) -> bool {
+    if o.plan == 0 {
+        if o.minute_given {
+            say::text(
+                2,
+                b"tone: --minute: it is the minute that a plan is asked for, and no --plan is given\n",
+            );
+            return false;
+        }
+        return true;
+    }
+    if o.minute_given {
+        return true;
+    }
+    say::text(
+        2,
+        b"tone: --plan: it is asked for a minute of the week, and no --minute is given\n",
+    );
+    false
+}
+
 // Whether the kind of the voice and the gains go together; what does not has been said.
 fn kind_goes(o: Options) -> bool {
     let given = o.given;
@@ -450,7 +525,10 @@ pub fn is_right(o: Options) -> bool {
     if !kind_goes(o) {
         return false;
     }
-    time_goes(o)
+    if !time_goes(o) {
+        return false;
+    }
+    plan_goes(o)
 }
 
 // Reads all arguments. What is wrong with them has been said where `failed` is set.

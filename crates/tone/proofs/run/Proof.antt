@@ -27,6 +27,12 @@ returns-2 c = search needs
 values-requires : tie.Need-values-requires
 values-requires c κs = search needs
 
+at-minute-requires : tie.Need-at-minute-requires
+at-minute-requires c κs = search needs
+
+returns-3 : tie.Need-returns-3
+returns-3 c = search needs
+
 -- src/main.rt:102:19
 array-share-prefix-image : tie.Need-array-share-prefix-image
 array-share-prefix-image c = search needs
@@ -42,17 +48,17 @@ array-share-prefix-values c = search needs
 -- src/main.rt:102:32
 slice-aggregate-play-image-2 : tie.Need-slice-aggregate-play-image-2
 slice-aggregate-play-image-2 c =
-    let b2 = c .before .before in
-    let b4 = b2 .before .before in
-    part-length _ _ 16 (b2 .values .ensures .1) (b4 .from-argument .ensures)
+    let b4 = c .before .before .before .before in
+    let b6 = b4 .before .before in
+    part-length _ _ 16 (b4 .values .ensures .1) (b6 .from-argument .ensures)
 
 -- src/main.rt:102:5
 play-image-requires : tie.Need-play-image-requires
 play-image-requires c κs = search needs
 
 -- src/main.rt:89:1
-returns-3 : tie.Need-returns-3
-returns-3 c = search needs
+returns-4 : tie.Need-returns-4
+returns-4 c = search needs
 
 pub run-spec : {M : Type 1} → statement M
 run-spec =
@@ -64,9 +70,11 @@ run-spec =
     from-argument-requires
     returns-2
     values-requires
+    at-minute-requires
+    returns-3
     array-share-prefix-image
     slice-aggregate-play-image
     array-share-prefix-values
     slice-aggregate-play-image-2
     play-image-requires
-    returns-3)
+    returns-4)
