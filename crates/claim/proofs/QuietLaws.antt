@@ -1,14 +1,14 @@
 -- No running state changes with a plan. Assumes nothing.
 use mathlib.Core.Path.{_≡_, refl, ap, sym, _∙_}
-use mathlib.Core.Logic.{_⊎_, inl, inr}
+use mathlib.Core.Logic.{inl, inr}
 use mathlib.Core.List.{[], _∷_}
-use mathlib.Core.Bool.{Bool, true, false}
+use mathlib.Core.Bool.{true}
 use Prim.Native.Nat.{ℕ, suc, _<_}
 use native.Mathlib.Nat.{one-mul, zero-mul, mod-one}
 use native.Mathlib.Omega.{arith}
 use lib.ListN.{length, getD, replicate, length-replicate, getD-replicate}
 use lib.Seq.{getD-take}
-use lib.Dec.{T, eqb, eqb-refl}
+use borrow.Author.Tests.{eq-eqb}
 use lib.Ieee.{Float}
 use Rattle.voice.specs.Input.{Call, partOf, gainsAt, inputOk, inputsOk}
 use Rattle.voice.specs.Question.{accepted, ask, callQuestion, playQuestion}
@@ -24,7 +24,7 @@ use Rattle.quiet.specs.Plan.{quietGain}
 use Rattle.quiet.specs.Answer.{gainOf}
 use Rattle.voice.proofs.QuestionLaws.{ask-yes, call-accepted, inputs-fit}
 use Rattle.claim.specs.Calls.{PlayCall, callOf, outLength, VoiceCall, playing, after, run}
-use Rattle.claim.specs.Quiet.{AlikeButGains, GainsAside, constant, withGain, PlanAside, OtherGains, GainsAsideThroughout}
+use Rattle.claim.specs.Quiet.{AlikeButGains, GainsAside, constant, withGain, PlanAside, OtherGains, Alike, GainsAsideThroughout}
 
 -- what channel 0 leaves is by the frequencies alone
 same-end : (v : Voice) (c d : Call) → AlikeButGains c d → blockEnd (ticking v) c ≡ blockEnd (ticking v) d
@@ -46,11 +46,7 @@ gains-aside v c d m n a p q = same-left v c d (playQuestion v c m) (playQuestion
 pub constant-accepted : (c : Call) (g : Float) → inputOk 1 (c .shape .samples) (length (constant c g)) ≡ true
 constant-accepted c g =
     let n = c .shape .samples in
-    rw (length-replicate n _, one-mul n) (T-true (eqb n n) (eqb-refl n))
-  where
-    T-true : (b : Bool) → T b → b ≡ true
-    T-true true h = refl
-    T-true false h = absurd h
+    rw (length-replicate n _, one-mul n) (eq-eqb n n refl)
 
 -- LAW: and it is what the play hears: gain 0 of every channel at every sample
 pub gain-heard : (c : Call) (g d : Float) (ch i : ℕ) → i < c .shape .samples → getD (gainsAt (withGain c g) ch i) 0 d ≡ g
@@ -103,7 +99,7 @@ plan-alike p w one other e l h = record {
   answered = h ∙ sym (rw (e, l) (call-accepted-with (callOf one) (gainOf (quietGain p w)) (outLength one) h));
 }
 
-same-after : (v : Voice) (c d : VoiceCall) → (c ≡ d) ⊎ OtherGains c d → after v c ≡ after v d
+same-after : (v : Voice) (c d : VoiceCall) → Alike c d → after v c ≡ after v d
 unfolding after played playQuestion
 same-after v c d (inl e) = ap (after v) e
 same-after v c d (inr o) =

@@ -69,10 +69,14 @@ pub record OtherGains (c d : VoiceCall) : Type 0 where
   pub alike : AlikeButGains (callOf one) (callOf other)
   pub answered : callQuestion (callOf one) (outLength one) ≡ callQuestion (callOf other) (outLength other)
 
--- two lists of calls in which each call is that of the other list, or a play with other gains
+-- the same call, or a play with other gains
+abbrev pub Alike : VoiceCall → VoiceCall → Type 0
+Alike c d = (c ≡ d) ⊎ OtherGains c d
+
+-- two lists of calls that are alike, call by call
 pub record AlikeCalls (cs ds : List VoiceCall) : Type 0 where
   pub as-many : length cs ≡ length ds
-  pub each : (i : ℕ) → i < length cs → (getD cs i resetting ≡ getD ds i resetting) ⊎ OtherGains (getD cs i resetting) (getD ds i resetting)
+  pub each : (i : ℕ) → i < length cs → Alike (getD cs i resetting) (getD ds i resetting)
 
 -- After either list the voice is the same, refused calls included.
 abbrev pub GainsAsideThroughout : Type 0

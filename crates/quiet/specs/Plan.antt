@@ -21,7 +21,7 @@ firstWhere test (v ∷ vs) = cond (test v) 0 (suc (firstWhere test vs))
 unfoldable pub gainAt : List Window → ℕ → Float
 gainAt vs i = getD (map (λ v. stepGain (v .step)) vs) i (quotient 1 1)
 
--- of at most 64 windows
+-- what these windows answer, of which there are at most 64
 unfoldable pub windowsAnswer : List Window → ℕ → PlanAnswer
 windowsAnswer vs w =
     let badEdge = firstWhere (λ v. not (edgesOk v)) vs in

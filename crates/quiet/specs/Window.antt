@@ -12,7 +12,7 @@ use Rattle.quiet.specs.declared.plan.Window.{Window}
 unfoldable pub edgesOk : Window → Bool
 edgesOk v = ltb (v .start) weekMinutes && ltb (v .end) weekMinutes
 
--- question 19 of one window
+-- question 19 of one window: is its step not above 100?
 unfoldable pub stepOk : Window → Bool
 stepOk v = leb (v .step) fullStep
 
