@@ -23,11 +23,11 @@ use Rattle.table.specs.Lookup.{foundView}
 use Rattle.table.specs.Rewrite.{rewritingParsed}
 
 -- a map that has another one back from it tells its arguments apart
-apart : {A B : Type 0} (f : A → B) (back : B → A) → ((a : A) → back (f a) ≡ a) → (x y : A) → f x ≡ f y → x ≡ y
+pub apart : {A B : Type 0} (f : A → B) (back : B → A) → ((a : A) → back (f a) ≡ a) → (x y : A) → f x ≡ f y → x ≡ y
 apart f back is x y e = sym (is x) ∙ ap back e ∙ is y
 
 -- the error with a number and its values
-abbrev errorOf : Refusal → CoeffTableCodecError
+abbrev pub errorOf : Refusal → CoeffTableCodecError
 errorOf r =
     cond (eqb (r .number) 1) CoeffTableCodecError.TooLong
     (cond (eqb (r .number) 3) CoeffTableCodecError.BadMagic
@@ -37,7 +37,7 @@ errorOf r =
     (cond (eqb (r .number) 7) (CoeffTableCodecError.InconsistentNoiseBandSpan (r .first) (r .second))
     CoeffTableCodecError.UnexpectedEof)))))
 
-error-back : (e : CoeffTableCodecError) → errorOf (refusalOf e) ≡ e
+pub error-back : (e : CoeffTableCodecError) → errorOf (refusalOf e) ≡ e
 error-back CoeffTableCodecError.TooLong = refl
 error-back CoeffTableCodecError.UnexpectedEof = refl
 error-back CoeffTableCodecError.BadMagic = refl

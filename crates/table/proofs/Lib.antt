@@ -12,7 +12,7 @@ pub mod LookupLaws
 pub mod StartLaws
 pub mod Spelled
 pub mod Rewritten
-pub mod Local
+pub mod Shift
 pub mod RoundTrip
 pub mod Apart
 pub mod Bench

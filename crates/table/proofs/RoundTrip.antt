@@ -10,14 +10,14 @@ use borrow.Author.Tests.{le-leb, eq-eqb}
 use Rattle.wire.specs.Parse.{ok}
 use Rattle.wire.specs.Cursor.{le16, takeAt, u16, u32}
 use Rattle.table.specs.Table.{PitchEntry, CoeffTable, same}
-use Rattle.table.specs.Image.{text, entries, magic, Header, header}
+use Rattle.table.specs.Image.{text, entry, entries, magic, Header, header}
 use Rattle.table.specs.Span.{consistent, ruled}
 use Rattle.table.specs.Decode.{decode}
 use Rattle.table.specs.Encode.{encode}
 use Rattle.table.specs.Rewrite.{rewriting, rewritten}
 use Rattle.table.proofs.Spelled.{piece, Again, read-again, header-parts, table-parts}
 use Rattle.table.proofs.Rewritten.{length-again}
-use Rattle.table.proofs.Local.{Alike, local-u32, local-text, local-entries}
+use Rattle.table.proofs.Shift.{AlikeTo, stays, shift-u32, shift-many, shift-text, shift-entry}
 
 abbrev pub Bytes : List ℕ → Type 0
 Bytes s = (i : ℕ) → getD s i 0 < 256
@@ -32,7 +32,7 @@ same-refl [] = refl
 same-refl (a ∷ l) = rw (eq-eqb a a refl) (same-refl l)
 
 -- a header of version 1, from its parts
-header-one : (u : List ℕ) (name : List ℕ) (count m e : ℕ) → 6 ≤ length u → take 4 u ≡ magic → le16 u 4 ≡ 1 → text u 6 ≡ ok name m → u32 u m ≡ ok count e
+pub header-one : (u : List ℕ) (name : List ℕ) (count m e : ℕ) → 6 ≤ length u → take 4 u ≡ magic → le16 u 4 ≡ 1 → text u 6 ≡ ok name m → u32 u m ≡ ok count e
     → header u 0 ≡ ok (record { version = 1; name = name; count = count }) e
 unfolding header takeAt u16
 header-one u name count m e room mark one t n =
@@ -60,7 +60,7 @@ module _ (s : List ℕ) (t : CoeffTable) (e : ℕ) (w : Again s t e) where
       let b : getD out (4 + 1) 0 ≡ 0 = out-at 1 in
       omega arith
 
-  out-alike : Alike s out 6 e
+  out-alike : AlikeTo s out 6 e
   out-alike i p q =
       let k : i ≡ 4 + suc (suc (i - 6)) = omega arith in
       let j : 6 + (i - 6) ≡ i = omega arith in
@@ -73,8 +73,8 @@ module _ (s : List ℕ) (t : CoeffTable) (e : ℕ) (w : Again s t e) where
       header-parts s d at h λ m p.
       let size : length out ≡ e = length-again s t e w in
       let some : 6 ≤ e = w .some in
-      let x = local-text s out 6 m (d .name) (p .name) in
-      let y = local-u32 s out m at (d .count) (p .count) in
+      let x = stays s out text (shift-text s out) 6 m (d .name) (p .name) in
+      let y = stays s out u32 (shift-u32 s out) m at (d .count) (p .count) in
       let o : 6 ≤ m = x .order in
       let r : m ≤ at = y .order in
       let mark : take 4 out ≡ magic = out-mark ∙ sym (p .mark) in (
@@ -84,7 +84,7 @@ module _ (s : List ℕ) (t : CoeffTable) (e : ℕ) (w : Again s t e) where
         omega arith,
       )
 
-decode-from : (u : List ℕ) (d : Header) (at e : ℕ) (es : List PitchEntry) → length u ≤ 65536 → header u 0 ≡ ok d at → entries (d .count) u at ≡ ok es e → ruled (consistent es) e ≡ ok true e
+pub decode-from : (u : List ℕ) (d : Header) (at e : ℕ) (es : List PitchEntry) → length u ≤ 65536 → header u 0 ≡ ok d at → entries (d .count) u at ≡ ok es e → ruled (consistent es) e ≡ ok true e
     → decode u ≡ ok (record { version = d .version; name = d .name; entries = es }) e
 unfolding decode
 decode-from u d at e es short head rest ruling = rw (le-leb (length u) 65536 short, head, rest, ruling) refl
@@ -97,7 +97,7 @@ decode-encode s byte t e h =
     let inside : e ≤ length s = w .inside in
     table-parts s t e h λ d at es p.
     let short : length s ≤ 65536 = p .short in
-    let x = local-entries s (encode t) (d .count) at e es (p .rest) in
+    let x = stays s (encode t) (entries (d .count)) (shift-many s (encode t) entry (shift-entry s (encode t)) (d .count) 0) at e es (p .rest) in
     let o : at ≤ e = x .order in
     let f = out-header s t e w d at (p .head) o in
     let six : 6 ≤ at = f .1 in

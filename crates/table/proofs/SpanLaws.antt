@@ -14,7 +14,7 @@ use Rattle.table.specs.declared.span.Span.{Span}
 use Rattle.table.specs.declared.span.Baseline.{Baseline}
 use Rattle.table.specs.Table.{PitchEntry}
 use Rattle.table.specs.Image.{entry}
-use Rattle.table.specs.Span.{spanOf, floatEq, inconsistent, agree}
+use Rattle.table.specs.Span.{spanOf, floatEq, Verdict, agreed, broken, inconsistent, agree, consistent, agrees}
 use Rattle.table.specs.inner.Baseline.{judged, verdictFrom, concluded, answerFrom}
 
 true-false : false ≡ true → ⊥
@@ -85,3 +85,26 @@ entries-no j s i n at r h g = rw (many-no entry s i n at r h g) refl
 pub entries-end : (j : Baseline) (s : List ℕ) (i n at : ℕ) → i ≤ n → n ≤ i → answerFrom j i (many entry i (n - i) s at) ≡ concluded (verdictFrom j n []) n at
 unfolding answerFrom
 entries-end j s i n at h g = let q : i + 0 ≡ n = omega arith in let p : i ≡ n = omega arith in rw (many-end entry s i n at g, q, p) refl
+
+-- question 7 of two entries by themselves, by what a pass over the two holds
+module _ (e f : PitchEntry) where
+  abbrev both : Verdict
+  both = verdictFrom (judged (judged Baseline.Start 0 (spanOf e)) 1 (spanOf f)) 2 []
+
+  both-judged : both ≡ consistent (e ∷ f ∷ [])
+  unfolding verdictFrom
+  both-judged = sym (verdict-step Baseline.Start 0 e (f ∷ []) ∙ verdict-step (judged Baseline.Start 0 (spanOf e)) 1 f [])
+
+  pub both-agree : (n at : ℕ) → concluded both 2 0 ≡ ok n at → true ≡ agrees (consistent (e ∷ f ∷ []))
+  both-agree n at h = go both h ∙ ap agrees both-judged
+    where
+      go : (v : Verdict) → concluded v 2 0 ≡ ok n at → true ≡ agrees v
+      go agreed k = refl
+      go (broken r) k = let z : _≡_ {A = ℕ} 0 1 = cc in absurd (omega arith)
+
+  pub both-differ : (r : Refusal) → concluded both 2 0 ≡ refused r → false ≡ agrees (consistent (e ∷ f ∷ []))
+  both-differ r h = go both h ∙ ap agrees both-judged
+    where
+      go : (v : Verdict) → concluded v 2 0 ≡ refused r → false ≡ agrees v
+      go agreed k = let z : _≡_ {A = ℕ} 0 1 = cc in absurd (omega arith)
+      go (broken q) k = refl

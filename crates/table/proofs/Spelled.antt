@@ -72,7 +72,7 @@ module _ (s : List ℕ) (byte : (i : ℕ) → getD s i 0 < 256) where
       let p : e ≡ at + 4 = i .end in
       record { order = omega arith; inside = λ g. omega arith; bytes = rw (i .end, i .value) (digits at ∙ sym (four at there)) }
 
-  spelled-text : (at e : ℕ) (l : List ℕ) → text s at ≡ ok l e → Spelled s at e (putStr l)
+  pub spelled-text : (at e : ℕ) (l : List ℕ) → text s at ≡ ok l e → Spelled s at e (putStr l)
   spelled-text at e l h =
       went (string s at) (λ p next. ok (part s (p .start) (p .len)) next) l e h λ p m g h₁.
       let i = string-is s at m p g in
@@ -119,7 +119,7 @@ module _ (s : List ℕ) (byte : (i : ℕ) → getD s i 0 < 256) where
       let q : record { key = k; value = v } ≡ a = cc in
       rw (← q, ← z) (joined (spelled-text at m k g) (spelled-u32 m v n g₂))
 
-  spelled-entry : (i at e : ℕ) (a : PitchEntry) → entry i s at ≡ ok a e → Spelled s at e (putEntry a)
+  pub spelled-entry : (i at e : ℕ) (a : PitchEntry) → entry i s at ≡ ok a e → Spelled s at e (putEntry a)
   unfolding entry putEntry
   spelled-entry i at e a h =
       went (u32 s at) _ a e h λ f m₁ g₁ h₁.

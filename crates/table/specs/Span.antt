@@ -1,7 +1,7 @@
 -- Question 7: has each entry both or neither of `noise_band_min_hz` and `noise_band_max_hz`, equal as floats to the first entry's?
 use Prim.Native.Nat.{ℕ, _+_}
 use mathlib.Core.List.{List, [], _∷_}
-use mathlib.Core.Bool.{Bool, true, _&&_, cond}
+use mathlib.Core.Bool.{Bool, true, false, _&&_, cond}
 use mathlib.Core.Option.{Option, some, none}
 use lib.Ieee.{eq, ofBits, binary32}
 use Rattle.wire.specs.Parse.{Refusal, refusal, Parsed, ok, refused, Parser}
@@ -33,6 +33,10 @@ floatEq a b = eq (ofBits binary32 a) (ofBits binary32 b)
 pub data Verdict : Type 0 where
   agreed : Verdict
   broken : Refusal → Verdict
+
+abbrev pub agrees : Verdict → Bool
+agrees agreed = true
+agrees (broken r) = false
 
 -- refusal 7, with first_entry and the index
 abbrev pub inconsistent : ℕ → ℕ → Verdict

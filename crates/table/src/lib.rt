@@ -11,6 +11,7 @@ mod metadata;
 mod span;
 
 pub use metadata::Found;
+pub use span::spans_agree;
 
 pub mod read;
 pub mod rewrite;

@@ -1,9 +1,9 @@
 // Question 7: the noise-band span of each entry, and whether all agree with the first's.
 ghost use mathlib.Core.Path.{_≡_};
-ghost use Rattle.table.specs.Span.{spanFrom, spanOf, floatEq};
+ghost use Rattle.table.specs.Span.{spanFrom, spanOf, floatEq, consistent, agrees};
 ghost use Rattle.table.specs.inner.Baseline.{judged, verdictFrom, concluded};
 ghost use mathlib.Core.Bool.{_&&_};
-ghost use mathlib.Core.List.{[]};
+ghost use mathlib.Core.List.{[], _∷_};
 ghost use Rattle.table.specs.View.{entryAt};
 ghost use Rattle.table.specs.Answer.{foundBits, readingParsed};
 use crate::entry::EntryView;
@@ -115,5 +115,16 @@ pub fn conclude(j: Baseline, n: usize, end: usize) -> Reading
         Baseline::Start => Reading::Accepted(n, end),
         Baseline::Neither => Reading::Accepted(n, end),
         Baseline::Both(_, _) => Reading::Accepted(n, end),
+    }
+}
+
+// Whether two entries by themselves, each where it stands in its own image, answer question 7 with yes.
+pub fn spans_agree(s: &[u8], v: EntryView, t: &[u8], w: EntryView) -> bool
+    ensures { λ r. ⌜ r ≡ agrees (consistent (entryAt (now (s .entry)) v ∷ entryAt (now (t .entry)) w ∷ [])) ⌝ }
+{
+    let j = judge(Baseline::Start, 0, span_of(s, v));
+    match conclude(judge(j, 1, span_of(t, w)), 2, 0) {
+        Reading::Accepted(_, _) => true,
+        Reading::Refused(_) => false,
     }
 }
