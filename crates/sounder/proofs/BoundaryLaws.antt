@@ -3,10 +3,12 @@ use Prim.Native.Nat.{ℕ, zero, suc, _+_, _≤_}
 use mathlib.Core.Path.{_≡_, refl, ap, sym, _∙_}
 use mathlib.Core.List.{List}
 use native.Mathlib.Omega.{arith}
+use mathlib.Core.Bool.{cond}
+use lib.Dec.{eqb}
 use lib.Ieee.{Float}
 use lib.ListN.{length, drop, length-drop}
 use lib.Seq.{length-take-le}
-use Rattle.wire.specs.Parse.{Parsed, ok, refused}
+use Rattle.wire.specs.Parse.{refusal, Parsed, ok, refused}
 use Rattle.wire.specs.Cursor.{part, string}
 use Rattle.wire.proofs.Found.{string-is}
 use Rattle.wire.proofs.Many.{went}
@@ -28,8 +30,14 @@ use Rattle.voice.specs.declared.voice.State.{State}
 use Rattle.voice.specs.declared.voice.Voice.{Voice}
 use Rattle.player.specs.Playing.{played, Plays, PlaysParts}
 use Rattle.player.specs.declared.playing.Moved.{Moved}
+use Rattle.merging.specs.declared.tables.Merging.{Merging}
+use Rattle.merging.specs.Merge.{MergeOutcome, written, firstRefused, secondRefused, mergeRefused}
+use Rattle.merging.specs.Answer.{mergingOutcome}
+use Rattle.merging.proofs.ResultLaws.{merging-apart}
 use Rattle.sounder.specs.declared.answer.Answer.{Answer}
+use Rattle.sounder.specs.declared.merges.MergeAnswer.{MergeAnswer}
 use Rattle.sounder.specs.Answer.{refusalAnswer, done, kindOf}
+use Rattle.sounder.specs.Merges.{mergeAnswer}
 
 pub blend-kind : (n c : ℕ) → (n ≡ 0 → ⊥) → kindOf n c ≡ Kind.Blend
 blend-kind zero c h = absurd (h refl)
@@ -98,3 +106,22 @@ unfolding restarted
 restarts-in v s r e =
     let q = ask (keepsRules v) 13 0 in
     moved-in q (r .number) v s (r .state) (ap (λ (x : Restarted). x .number) e) (ap (λ (x : Restarted). x .state) e ∙ state-accepted q v s)
+
+-- ---- a merge's answers, as they cross
+abbrev outcomeOf : MergeAnswer → MergeOutcome
+outcomeOf m =
+    let r = refusal (m .answer .number) (m .answer .first) (m .answer .second) in
+    cond (eqb (m .image) 1) (firstRefused r)
+    (cond (eqb (m .image) 2) (secondRefused r) (cond (eqb (m .answer .number) 0) (written (m .answer .first) (m .answer .second)) (mergeRefused r)))
+
+outcome-back : (m : Merging) → outcomeOf (mergeAnswer (mergingOutcome m)) ≡ mergingOutcome m
+outcome-back (Merging.Written n bytes) = refl
+outcome-back (Merging.FirstRefused e) = refl
+outcome-back (Merging.SecondRefused e) = refl
+outcome-back Merging.InconsistentSpans = refl
+outcome-back Merging.TooLong = refl
+outcome-back Merging.TargetTooShort = refl
+
+-- LAW: no two share number, values and image
+pub merge-answers-apart : (a b : Merging) → mergeAnswer (mergingOutcome a) ≡ mergeAnswer (mergingOutcome b) → a ≡ b
+merge-answers-apart a b e = merging-apart a b (sym (outcome-back a) ∙ ap outcomeOf e ∙ outcome-back b)

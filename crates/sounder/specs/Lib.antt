@@ -1,3 +1,4 @@
 pub mod Answer
 pub mod Voices
 pub mod Plans
+pub mod Merges

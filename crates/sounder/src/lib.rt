@@ -3,6 +3,7 @@
 mod answer;
 pub mod images;
 mod kind;
+pub mod merges;
 pub mod plans;
 pub mod play_in;
 pub mod restart_in;
@@ -12,5 +13,6 @@ pub mod voices;
 pub use answer::Answer;
 pub use images::DeskAnswer;
 pub use images::Place;
+pub use merges::MergeAnswer;
 pub use plans::QuietAnswer;
 pub use voices::MadeAnswer;

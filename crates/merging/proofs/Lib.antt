@@ -1,0 +1,17 @@
+pub mod OrderLaws
+pub mod EqualKeys
+pub mod RankLaws
+pub mod SortLaws
+pub mod FloatLaws
+pub mod SpanOrder
+pub mod AcceptedLaws
+pub mod MergeLaws
+pub mod LaidLaws
+pub mod GatherLaws
+pub mod WriteLaws
+pub mod KeyLaws
+pub mod ImageLaws
+pub mod JoinedLaws
+pub mod HeadLaws
+pub mod AnswerLaws
+pub mod ResultLaws
