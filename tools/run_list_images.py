@@ -4,7 +4,8 @@
     tools/run_list_images.py            writes the file, as `rt fmt` lays it out
     tools/run_list_images.py --check    compares it with what it would write; status 1 where it differs
 
-Each has entries of one partial (M = 1, k = 1, j = 0, coefficient 1.0, stretch 1.0, no metadata) with pitches 100, 110, ..
+Each has entries of one partial (M = 1, k = 1, j = 0, coefficient 1.0, stretch 1.0, no metadata but for the last one's span) with
+pitches 100, 110, ..
 """
 import struct
 import sys
@@ -14,14 +15,19 @@ sys.path.insert(0, str(Path(__file__).resolve().parent))
 import made
 
 
-def image(pitches, partials=1):
+SPAN = {b"noise_band_min_hz": 80.0, b"noise_band_max_hz": 12000.0}
+
+
+def image(pitches, partials=1, metadata={}):
     out = b"MSCT" + struct.pack("<HII", 1, 0, len(pitches))
     for p in pitches:
         out += struct.pack("<ffI", p, 1.0, partials)
         out += struct.pack(f"<{partials}f", *([p] * partials))
         out += struct.pack("<III", 1, 0, partials)
         out += struct.pack(f"<{partials}f", *([1.0] * partials))
-        out += struct.pack("<I", 0)
+        out += struct.pack("<I", len(metadata))
+        for key, value in metadata.items():
+            out += struct.pack("<I", len(key)) + key + struct.pack("<f", value)
     return out
 
 
@@ -31,6 +37,7 @@ TABLES = [
     ("WIDE", "an entry of 33 partials", image([100.0], 33)),
     ("FLAT", "the second of two entries has pitch 0", image([100.0, 0.0])),
     ("EMPTY", "no entries", image([])),
+    ("SPANNED", "an entry with a span of noise bands", image([100.0], 1, SPAN)),
 ]
 
 

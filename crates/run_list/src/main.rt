@@ -1,6 +1,7 @@
 // Runs at the limits: each line is what was asked, and the number of the answer (0: accepted). The expected lines in `stdout` are document
-// 01's, and of document 02 those of cards 1 and 2.
+// 01's, and of document 02 those of cards 1 to 3.
 mod images;
+mod merges;
 
 use quiet::Plan;
 use quiet::Window;
@@ -12,7 +13,7 @@ use voice::CENTRES;
 use voice::Shape;
 use voice::Voice;
 
-fn say(what: &[u8], number: u32) {
+pub fn say(what: &[u8], number: u32) {
     io::write_all(1, what);
     io::write_all(1, b": ");
     io::print_decimal(1, number as u64);
@@ -289,4 +290,5 @@ fn main() {
     floats();
     retunes();
     plans();
+    merges::all();
 }
