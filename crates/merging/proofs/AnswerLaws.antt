@@ -25,9 +25,11 @@ use Rattle.merging.proofs.ImageLaws.{Holds, holds-entries}
 abbrev pub Answers : List ℕ → List ℕ → MergeOutcome → List ℕ → List ℕ → Type 0
 Answers s v r before after = (r ≡ merging (decode s) (decode v) (length before)) × MergeLeaves (decode s) (decode v) before after
 
+-- LAW: the first image's refusal comes before anything of the second
 pub first-no : (s v : List ℕ) (r : Refusal) (before : List ℕ) → counts (decode s) ≡ refused r → Answers s v (firstRefused r) before before
 first-no s v r before h = rw (refused-is s r h) (refl, refl)
 
+-- LAW: then comes the second's
 pub second-no : (s v : List ℕ) (n e : ℕ) (r : Refusal) (before : List ℕ) → counts (decode s) ≡ ok n e → counts (decode v) ≡ refused r → Answers s v (secondRefused r) before before
 second-no s v n e r before h g = accepted-table s n e h λ t p l. rw (p, refused-is v r g) (refl, refl)
 

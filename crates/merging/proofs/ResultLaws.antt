@@ -9,7 +9,7 @@ use lib.ListN.{length, take, drop}
 use lib.Seq.{take-at, drop-at}
 use lib.Dec.{leb, eqb}
 use borrow.Author.Tests.{leb-true}
-use Rattle.wire.specs.Parse.{refusal, ok}
+use Rattle.wire.specs.Parse.{refusal, Parsed, ok, refused}
 use Rattle.table.specs.Table.{CoeffTable}
 use Rattle.table.specs.Span.{agreed, consistent, agrees}
 use Rattle.table.specs.Decode.{decode}
@@ -17,7 +17,7 @@ use Rattle.table.specs.Encode.{encode}
 use Rattle.table.proofs.RoundTrip.{Bytes}
 use Rattle.table.proofs.Apart.{apart, errorOf, error-back}
 use Rattle.merging.specs.declared.tables.Merging.{Merging}
-use Rattle.merging.specs.Merge.{withEntries, joined, Merged, MergeOutcome, written, firstRefused, secondRefused, mergeRefused, joinedOutcome, merging, MergedInto, MergeLeaves}
+use Rattle.merging.specs.Merge.{withEntries, joined, Merged, MergeOutcome, written, firstRefused, secondRefused, mergeRefused, joinedOutcome, merging, MergedInto, LeftBy, MergeLeaves}
 use Rattle.merging.specs.Answer.{mergingOutcome}
 use Rattle.merging.proofs.OrderLaws.{length-arranged}
 use Rattle.merging.proofs.AnswerLaws.{agreed-so}
@@ -84,6 +84,26 @@ written-read s v bs bv t u e f hs hv before after n bytes h g =
       short = rw (sym (q .size)) (q .short);
       beyond = b ∙ ap (λ (x : ℕ). drop x before) z;
     }
+
+-- LAW: where it was not written, the target is as it was
+unfoldable pub isWritten : MergeOutcome → Bool
+isWritten (written n bytes) = true
+isWritten (firstRefused r) = false
+isWritten (secondRefused r) = false
+isWritten (mergeRefused r) = false
+
+left-so : (o : MergeOutcome) (t u : CoeffTable) (before after : List ℕ) → isWritten o ≡ false → LeftBy o t u before after → after ≡ before
+unfolding isWritten
+left-so (written n bytes) t u before after h g = let w : _≡_ {A = ℕ} 0 1 = cc in absurd (omega arith)
+left-so (firstRefused r) t u before after h g = g
+left-so (secondRefused r) t u before after h g = g
+left-so (mergeRefused r) t u before after h g = g
+
+pub refused-stays : (p q : Parsed CoeffTable) (before after : List ℕ) → isWritten (merging p q (length before)) ≡ false
+    → MergeLeaves p q before after → after ≡ before
+refused-stays (refused r) q before after h g = g
+refused-stays (ok t e) (refused r) before after h g = g
+refused-stays (ok t e) (ok u f) before after h g = left-so (joinedOutcome (joined t u) (length before)) t u before after h g
 
 -- ---- the answers apart
 abbrev mergingOf : MergeOutcome → Merging

@@ -5,7 +5,7 @@ use mathlib.Core.List.{List, [], _∷_, _++_}
 use mathlib.Core.Bool.{Bool, true, false, _&&_, cond}
 use native.Mathlib.Omega.{arith}
 use Rattle.merging.specs.Order.{Every, here, Arranged, nothing, more}
-use Rattle.merging.proofs.OrderLaws.{every-imp, every-join, every-arranged}
+use Rattle.merging.proofs.OrderLaws.{every-imp, every-join, every-arranged, arranged-sym}
 use Rattle.table.specs.declared.span.Span.{Span}
 use Rattle.table.specs.Table.{PitchEntry}
 use Rattle.table.specs.Span.{spanOf, floatEq, Verdict, agreed, broken, inconsistent, beside, agree, start, consistent, agrees}
@@ -163,6 +163,18 @@ consistent-arranged (more {a = e} {n = out} (more {a = f} {l = k} r p) q) h =
     let y : alike (spanOf e) (spanOf e) ≡ true = alike-trans (spanOf e) (spanOf f) (spanOf e) x (alike-sym (spanOf e) (spanOf f) x) in
     let all : Every (Like (spanOf e)) (e ∷ f ∷ k) = (y, w .1) in
     all-like (spanOf e) out (every-arranged (Like (spanOf e)) (more (more r p) q) all)
+
+-- LAW: so question 7 does not turn on the order, whatever its answer
+pub consistent-alike : {es fs : List PitchEntry} → Arranged es fs → agrees (consistent es) ≡ agrees (consistent fs)
+consistent-alike {es} {fs} r = go (consistent es) (consistent fs) refl refl
+  where
+    go : (v w : Verdict) → consistent es ≡ v → consistent fs ≡ w → agrees v ≡ agrees w
+    go agreed w h g = ap agrees (sym (sym g ∙ consistent-arranged r h))
+    go (broken a) agreed h g =
+        let k : agreed ≡ broken a = sym (consistent-arranged (arranged-sym r) g) ∙ h in
+        let z : _≡_ {A = ℕ} 0 1 = cc in
+        absurd (omega arith)
+    go (broken a) (broken b) h g = refl
 
 -- ---- LAW: of two tables that each agree, the joined one agrees where the first entries' spans are alike, or one has no entry
 joined-agrees : (e : PitchEntry) (es : List PitchEntry) (f : PitchEntry) (fs : List PitchEntry)

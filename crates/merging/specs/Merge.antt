@@ -13,7 +13,7 @@ use Rattle.table.specs.Decode.{maxImage}
 use Rattle.table.specs.Encode.{encode}
 use Rattle.merging.specs.Order.{pitchRank, Arranged, Ascending}
 
--- a table of the first one's name with some entries, as version 1
+-- a table of the first one's name with some entries, as it is read again: version 1
 abbrev pub withEntries : CoeffTable → List PitchEntry → CoeffTable
 withEntries t es = record { version = 1; name = t .name; entries = es }
 
@@ -56,13 +56,14 @@ pub record MergedInto (t u : CoeffTable) (before after : List ℕ) : Type 0 wher
   pub merged : Merged t u entries
   pub bytes : after ≡ encode (withEntries t entries) ++ drop (length (encode (withEntries t entries))) before
 
--- so it is where it was written; where anything was refused, the target is as it was
+-- the target by the outcome: that image where it was written; where anything was refused, the target is as it was
 abbrev pub LeftBy : MergeOutcome → CoeffTable → CoeffTable → List ℕ → List ℕ → Type 0
 LeftBy (written n bytes) t u before after = MergedInto t u before after
 LeftBy (firstRefused r) t u before after = after ≡ before
 LeftBy (secondRefused r) t u before after = after ≡ before
 LeftBy (mergeRefused r) t u before after = after ≡ before
 
+-- what a merge of two images, as they are read, leaves of a target: there is a table of both only where both were accepted
 abbrev pub MergeLeaves : Parsed CoeffTable → Parsed CoeffTable → List ℕ → List ℕ → Type 0
 MergeLeaves (refused r) u before after = after ≡ before
 MergeLeaves (ok t e) (refused r) before after = after ≡ before

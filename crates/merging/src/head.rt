@@ -10,6 +10,7 @@ ghost use Rattle.merging.specs.inner.Image.{laid, headOf};
 use crate::extent::Extent;
 use crate::write::copy_part;
 
+// The lowest eight bits of a number.
 fn low_byte(n: u32) -> u8
     ensures { λ r. ⌜ r ≡ n % 256 ⌝ }
 {

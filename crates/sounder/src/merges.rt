@@ -31,19 +31,20 @@ fn image_refused(image: u32, e: CoeffTableCodecError) -> MergeAnswer
 }
 
 // What is said of the two together.
-fn of_both(number: u32, first: usize, second: usize) -> MergeAnswer
-    ensures { λ r. ⌜ r ≡ record { answer = record { number = number; first = first; second = second }; image = 0 } ⌝ }
+fn of_both(number: u32, a: usize, b: usize) -> MergeAnswer
+    ensures { λ r. ⌜ r ≡ record { answer = record { number = number; first = a; second = b }; image = 0 } ⌝ }
 {
     MergeAnswer {
         answer: Answer {
             number,
-            first,
-            second,
+            first: a,
+            second: b,
         },
         image: 0,
     }
 }
 
+// An outcome as numbers.
 fn merge_answer(m: Merging) -> MergeAnswer
     ensures { λ r. ⌜ r ≡ mergeAnswer (mergingOutcome m) ⌝ }
 {

@@ -34,6 +34,7 @@ pub data Verdict : Type 0 where
   agreed : Verdict
   broken : Refusal → Verdict
 
+-- whether it is yes
 abbrev pub agrees : Verdict → Bool
 agrees agreed = true
 agrees (broken r) = false
