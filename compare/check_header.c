@@ -1,6 +1,7 @@
-/* include/sounder.h against the library: sizes and offsets, a read, a refusal, a rewriting, and voices of both kinds: what a making puts
- * into each field, and blocks played and rates changed both ways, beside stored samples; and plans of quiet windows. compare/try_headers
- * compiles it, also against wrong headers; there without the sizes and offsets (VALUES_ALONE), so that the values alone have to tell. */
+/* include/sounder.h against the library: sizes and offsets, a read, a refusal, a rewriting, merges, and voices of both kinds: what a making
+ * puts into each field, and blocks played and rates changed both ways, beside stored samples; and plans of quiet windows.
+ * compare/try_headers compiles it, also against wrong headers; there without the sizes and offsets (VALUES_ALONE), so that the values alone
+ * have to tell. */
 #include "sounder.h"
 #include <math.h>
 #include <stdio.h>
@@ -21,6 +22,9 @@ AT(sounder_desk_answer, answer, 0);
 AT(sounder_desk_answer, bands, 24);
 AT(sounder_desk_answer, min_hz, 28);
 AT(sounder_desk_answer, max_hz, 32);
+SIZE(sounder_merge_answer, 32);
+AT(sounder_merge_answer, answer, 0);
+AT(sounder_merge_answer, image, 24);
 SIZE(sounder_biquad_coeffs, 20);
 AT(sounder_biquad_coeffs, b0, 0);
 AT(sounder_biquad_coeffs, b1, 4);
@@ -404,6 +408,127 @@ static void check_voices(void)
     check_retune(&blend.voice, &blend_slow.voice, &after_retune[1]);
 }
 
+/* ---- merges: an image of two smallest entries, of pitches 440 and 110, named "c" */
+static const uint8_t extra[] = {'M', 'S', 'C', 'T', 1, 0, 1, 0, 0, 0, 'c', 2, 0, 0, 0,
+                                0, 0, 0xDC, 0x43, 0, 0, 0x80, 0x3F, 0, 0, 0, 0, 0, 0, 0, 0, 0, 0, 0, 0, 0, 0, 0, 0, 0, 0, 0, 0,
+                                0, 0, 0xDC, 0x42, 0, 0, 0x80, 0x3F, 0, 0, 0, 0, 0, 0, 0, 0, 0, 0, 0, 0, 0, 0, 0, 0, 0, 0, 0, 0};
+
+/* where the entries of the two images start, and how long one of the second is */
+#define IMAGE_FROM 16
+#define EXTRA_FROM 15
+#define EXTRA_ENTRY 28
+#define IMAGE_ENTRY (sizeof image - 1 - IMAGE_FROM)
+
+static uint8_t merged[65536 + 8];
+
+/* all that a merge answers */
+static void expect_merge(struct sounder_merge_answer a, uint32_t number, size_t first, size_t second, uint32_t which, const char *what)
+{
+    expect(is(a.answer, number, first, second) && a.image == which, what);
+}
+
+static void clear(void)
+{
+    memset(merged, 0x55, sizeof merged);
+}
+
+/* the target from a byte on is as it was */
+static void expect_stays(size_t from, const char *what)
+{
+    for (size_t i = from; i < sizeof merged; i++) {
+        if (merged[i] != 0x55) {
+            expect(0, what);
+            return;
+        }
+    }
+}
+
+/* n bytes at a position of the target */
+static int stands(size_t at, const void *bytes, size_t n)
+{
+    return memcmp(merged + at, bytes, n) == 0;
+}
+
+/* the entries of both by their pitch, under either name: with version 1, and without the byte after the last entry of `image` */
+static void check_merge(void)
+{
+    static const uint8_t three[] = {3, 0, 0, 0};
+    const size_t low = IMAGE_FROM, middle = low + EXTRA_ENTRY, high = middle + IMAGE_ENTRY, end = high + EXTRA_ENTRY;
+    clear();
+    expect_merge(sounder_merge(image, sizeof image, extra, sizeof extra, merged, end), 0, 3, end, 0, "a merge");
+    expect(stands(0, "MSCT\1\0\2\0\0\0ab", 12) && stands(12, three, 4), "mark, version, name and count of a merge");
+    expect(stands(low, extra + EXTRA_FROM + EXTRA_ENTRY, EXTRA_ENTRY), "the lowest pitch");
+    expect(stands(middle, image + IMAGE_FROM, IMAGE_ENTRY), "the pitch between");
+    expect(stands(high, extra + EXTRA_FROM, EXTRA_ENTRY), "the highest pitch");
+    expect_stays(end, "bytes beyond the merged image");
+    expect(is(sounder_from_bytes(merged, end), 0, 3, end), "a merged image is accepted");
+    clear();
+    expect_merge(sounder_merge(extra, sizeof extra, image, sizeof image, merged, sizeof merged), 0, 3, end - 1, 0, "the other way round");
+    expect(stands(0, "MSCT\1\0\1\0\0\0c", 11) && stands(11, three, 4), "the name of the first");
+    expect(stands(EXTRA_FROM, extra + EXTRA_FROM + EXTRA_ENTRY, EXTRA_ENTRY), "the same order");
+    expect_stays(end - 1, "bytes beyond the merged image, in a long target");
+    clear();
+    expect_merge(sounder_merge(image, sizeof image, image, sizeof image, merged, sizeof merged), 0, 2, IMAGE_FROM + 2 * IMAGE_ENTRY, 0,
+                 "an image with itself");
+    expect(stands(IMAGE_FROM + IMAGE_ENTRY, image + IMAGE_FROM, IMAGE_ENTRY), "its entry a second time");
+}
+
+/* the first image's questions, then the second's: of which a refusal speaks, and its values */
+static void check_refused_images(void)
+{
+    static uint8_t other[sizeof extra], none[1];
+    const size_t n = sizeof extra;
+    memcpy(other, extra, n);
+    other[4] = 7;
+    clear();
+    expect_merge(sounder_merge(other, n, image, 20, merged, sizeof merged), 4, 7, 0, 1, "the first image's version");
+    expect_merge(sounder_merge(image, 20, other, n, merged, 0), 2, 0, 0, 1, "the first image's end");
+    expect_merge(sounder_merge(image, sizeof image, other, n, merged, 1), 4, 7, 0, 2, "the second image's version, before the target");
+    expect_merge(sounder_merge(extra, n, extra, n - 1, merged, sizeof merged), 2, 0, 0, 2, "the second image's end");
+    memcpy(other, extra, n);
+    other[EXTRA_FROM + EXTRA_ENTRY + 12] = other[EXTRA_FROM + EXTRA_ENTRY + 16] = 1; /* a channel of one band, and no coefficients */
+    expect_merge(sounder_merge(other, n, image, 20, merged, sizeof merged), 6, 1, 0, 1, "an entry of the first image");
+    expect_merge(sounder_merge(image, sizeof image, other, n, merged, sizeof merged), 6, 1, 0, 2, "an entry of the second image");
+    expect_merge(sounder_merge(merged, 65537, other, n, none, 0), 1, 0, 0, 1, "a first image of 65,537 bytes");
+    expect_merge(sounder_merge(extra, n, merged, 65537, none, 0), 1, 0, 0, 2, "a second image of 65,537 bytes");
+    expect_stays(0, "a merge that refuses an image writes nothing");
+}
+
+/* a table of two entries with a span each, the second's end as given; named "ab" */
+static void make_spans(float end)
+{
+    put_head(2);
+    for (size_t e = 0; e < 2; e++) {
+        put(bits(110), 4);
+        put(bits(1), 4);
+        for (size_t i = 0; i < 4; i++) {
+            put(0, 4);
+        }
+        put(2, 4);
+        put_gain("noise_band_min_hz", 80);
+        put_gain("noise_band_max_hz", e ? end : 12000);
+    }
+}
+
+/* 21, 22 and 23 in their order, with no values and no image */
+static void check_refused_merges(void)
+{
+    static uint8_t named[65536] = {'M', 'S', 'C', 'T', 1, 0, 0xF2, 0xFF};
+    const size_t n = sizeof extra, end = IMAGE_FROM + IMAGE_ENTRY + 2 * EXTRA_ENTRY;
+    memset(named + 10, 'n', 65522);
+    clear();
+    expect_merge(sounder_merge(image, sizeof image, extra, n, merged, end - 1), 23, 0, 0, 0, "a target that is too short for a merge");
+    expect_merge(sounder_merge(named, 65536, extra, n, merged, 0), 22, 0, 0, 0, "a result that is too long, asked before the target");
+    make_spans(12001);
+    expect_merge(sounder_merge(image, sizeof image, table, table_len, merged, sizeof merged), 7, 0, 1, 2, "spans of the second image");
+    make_spans(12000);
+    expect_merge(sounder_merge(image, sizeof image, table, table_len, merged, 0), 21, 0, 0, 0, "spans of both, asked before the target");
+    expect_stays(0, "a refused merge writes nothing");
+    expect_merge(sounder_merge(named, 65536, named, 65536, merged, 65536), 0, 0, 65536, 0, "a result of 65,536 bytes");
+    expect(memcmp(named, merged, 65536) == 0, "no entries");
+    expect_stays(65536, "bytes beyond it");
+}
+
 /* ---- quiet windows: a plan of three windows, and what would hold, or be refused, in the places beyond */
 static struct sounder_plan three_windows(void)
 {
@@ -530,6 +655,9 @@ int main(void)
     expect(memcmp(target, whole, n) == 0, "the rewritten image");
     check_voices();
     check_numbers();
+    check_merge();
+    check_refused_images();
+    check_refused_merges();
     check_windows();
     check_last_window();
     check_refused_plans();

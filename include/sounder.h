@@ -1,4 +1,4 @@
-/* The crossing sounder for C: images of coefficient tables, read and rewritten, voices, made and played, and how loud by the minute.
+/* The crossing sounder for C: images of coefficient tables, read, rewritten and merged; voices, made and played; how loud by the minute.
  *
  * Every function answers for every argument; none allocates, and none writes but to the target or the output that it is lent, or, of those
  * that are handed a pointer to a voice, to that voice. A slice is a pointer and a length in elements. A pointer may not be null, also where
@@ -35,7 +35,10 @@ extern "C" {
  *  17 the target does not hold the rewritten image
  *  18 more than 64 windows, or an edge above 10,079   first: the first window with such an edge; 64 where there are more windows than 64
  *  19 a loudness step above 100                       first: the first window with such a step
- *  20 the minute of the week is above 10,079 */
+ *  20 the minute of the week is above 10,079
+ *  21 the noise-band spans of two images, joined, do not agree
+ *  22 the merged image would be longer than 65,536 bytes
+ *  23 the target does not hold the merged image */
 struct sounder_answer {
     uint32_t number;
     size_t first;
@@ -54,6 +57,13 @@ struct sounder_desk_answer {
     uint32_t bands;
     uint32_t min_hz;
     uint32_t max_hz;
+};
+
+/* A merge reads two images: of a refusal 1 to 7 `image` says which it speaks of, 1 the first, 2 the second. It is 0 where the merge is
+ * accepted, and of 21 to 23, which speak of both. */
+struct sounder_merge_answer {
+    struct sounder_answer answer;
+    uint32_t image;
 };
 
 struct sounder_biquad_coeffs {
@@ -183,6 +193,21 @@ struct sounder_desk_answer sounder_desk(uint32_t kind, uint32_t channel, const u
 /* Rewrites an image as version 1, with nothing after the last entry. Accepted: first is the entry count, second the bytes written.
  * The target's bytes beyond stay; a refusal changes none. */
 struct sounder_answer sounder_to_bytes(const uint8_t *image, size_t image_len, uint8_t *target, size_t target_len);
+
+/* Makes one image of two: version 1, the first one's name, and every entry of both exactly one time, ascending by pitch, with nothing after
+ * the last entry. Pitches stand as Rust's `f32::total_cmp` orders floats: negative ones before positive ones, -0 before 0, NaNs at the two
+ * ends, by their sign. Accepted: answer.first is the entry count, the sum of both, and answer.second the bytes written; the target's first
+ * answer.second bytes are an image that sounder_from_bytes accepts. The target's bytes beyond stay; a refusal changes none.
+ *
+ * Refused, asked in this order: the first image's questions 1 to 7 with their values (image 1), then the second's (image 2), then 21, 22
+ * and 23, without values (image 0). A target of 65,536 bytes holds every result. The images may overlap each other, or be one and the same;
+ * the target may overlap neither. It takes some 40 KB of stack on x86-64, most of it two arrays of 2,340 64-bit numbers, in which the
+ * entries are put in order: no result has more entries. (A voice is made of at most 16: question 8.)
+ *
+ * Entries whose pitches have the same 32 bits may stand in either order. Which of them a voice plays goes by that order, so who wants to
+ * know what is heard has no pitch twice. */
+struct sounder_merge_answer sounder_merge(const uint8_t *first, size_t first_len, const uint8_t *second, size_t second_len, uint8_t *target,
+                                          size_t target_len);
 
 /* Makes a voice: kind 0 is a single voice of the channel, any other kind a blend. The centres are the bands' centre frequencies, as many
  * as sounder_desk answers. */

@@ -23,6 +23,14 @@ pub struct DeskAnswer {
     pub max_hz: u32,
 }
 
+// `image`: which of the two a refusal 1 to 7 speaks of, 1 or 2; else 0.
+#[repr(C)]
+#[derive(Clone, Copy, Debug, PartialEq)]
+pub struct MergeAnswer {
+    pub answer: Answer,
+    pub image: u32,
+}
+
 #[repr(C)]
 #[derive(Clone, Copy, Debug)]
 pub struct Window {
@@ -54,6 +62,10 @@ mod c {
         pub fn sounder_name(image: *const u8, len: usize) -> Place;
         pub fn sounder_desk(kind: u32, channel: u32, image: *const u8, len: usize) -> DeskAnswer;
         pub fn sounder_to_bytes(image: *const u8, len: usize, target: *mut u8, target_len: usize) -> Answer;
+        #[rustfmt::skip]
+        pub fn sounder_merge(
+            first: *const u8, first_len: usize, second: *const u8, second_len: usize, target: *mut u8, target_len: usize,
+        ) -> MergeAnswer;
         pub fn sounder_quiet_gain(plan: Plan, minute: u32) -> QuietAnswer;
     }
 }
@@ -72,6 +84,10 @@ pub fn desk(kind: u32, channel: u32, image: &[u8]) -> DeskAnswer {
 
 pub fn to_bytes(image: &[u8], target: &mut [u8]) -> Answer {
     unsafe { c::sounder_to_bytes(image.as_ptr(), image.len(), target.as_mut_ptr(), target.len()) }
+}
+
+pub fn merge(first: &[u8], second: &[u8], target: &mut [u8]) -> MergeAnswer {
+    unsafe { c::sounder_merge(first.as_ptr(), first.len(), second.as_ptr(), second.len(), target.as_mut_ptr(), target.len()) }
 }
 
 pub fn quiet_gain(plan: &Plan, minute: u32) -> QuietAnswer {

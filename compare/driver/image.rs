@@ -101,7 +101,7 @@ pub fn any_key(r: &mut Rand) -> Vec<u8> {
     }
 }
 
-fn any_entry(r: &mut Rand, span: &Option<(u32, u32)>) -> Entry {
+fn any_entry(r: &mut Rand, span: &Span) -> Entry {
     let (m, j, k) = (r.below(4), r.below(4) as u32, r.below(4) as u32);
     let mut n = k as usize * (m + j as usize);
     if r.chance(2) {
@@ -126,15 +126,27 @@ fn any_entry(r: &mut Rand, span: &Option<(u32, u32)>) -> Entry {
     Entry { f0: r.odd_bits(), stretch: r.odd_bits(), partials: words(r, m), k, j, coeffs: words(r, n), meta }
 }
 
-pub fn any_table(r: &mut Rand) -> Table {
-    let span = if r.chance(50) { Some((r.pick(&ODD), r.pick(&ODD))) } else { None };
-    let n = r.pick(&[0, 1, 1, 1, 2, 2, 3, 5]);
+// Both ends of a span as their bits; or none.
+pub type Span = Option<(u32, u32)>;
+
+pub fn any_span(r: &mut Rand) -> Span {
+    if r.chance(50) { Some((r.pick(&ODD), r.pick(&ODD))) } else { None }
+}
+
+// A table of n entries, most of which have the span.
+pub fn table_of(r: &mut Rand, n: usize, span: &Span) -> Table {
     Table {
         version: if r.chance(97) { r.below(2) as u16 } else { r.pick(&[2, 256, 257, 65535]) },
         name: if r.chance(80) { b"flute".to_vec() } else { any_string(r) },
-        entries: (0..n).map(|_| any_entry(r, &span)).collect(),
+        entries: (0..n).map(|_| any_entry(r, span)).collect(),
         tail: (0..r.below(3)).map(|_| r.next() as u8).collect(),
     }
+}
+
+fn any_table(r: &mut Rand) -> Table {
+    let span = any_span(r);
+    let n = r.pick(&[0, 1, 1, 1, 2, 2, 3, 5]);
+    table_of(r, n, &span)
 }
 
 pub const COUNTS: [u32; 12] = [0, 1, 2, 3, 255, 256, 65535, 65536, 1 << 24, (1 << 31) - 1, 1 << 31, u32::MAX];
@@ -143,9 +155,14 @@ fn put(image: &mut [u8], at: usize, v: u32) {
     image[at..at + 4].copy_from_slice(&v.to_le_bytes());
 }
 
-// A table's image, as it is or damaged.
 pub fn any_image(r: &mut Rand) -> Vec<u8> {
-    let (mut image, counts) = any_table(r).written();
+    let t = any_table(r);
+    perhaps_damaged(r, &t)
+}
+
+// A table's image, as it is or damaged.
+pub fn perhaps_damaged(r: &mut Rand, t: &Table) -> Vec<u8> {
+    let (mut image, counts) = t.written();
     match r.below(10) {
         0 => image.truncate(r.below(image.len() + 1)),
         1 => {

@@ -3,6 +3,7 @@ mod ffi;
 mod heap;
 mod image;
 mod list;
+mod merging;
 #[cfg(playing)]
 mod playing;
 mod quiet;
@@ -29,16 +30,26 @@ fn main() {
     if let Some(path) = value("--out") {
         let records = number("--list", 450) as usize;
         list::write(records, seed, &format!("{path}/reading"));
+        list::write_merges(records, seed, &format!("{path}/merging"));
         #[cfg(playing)]
         playing::write_list(records, seed, &format!("{path}/playing"));
         return;
     }
     // a part runs where it is the only one asked for, or none is
     let runs = |part: &str| !a.iter().any(|x| x.starts_with("--only-")) || a.contains(&format!("--only-{part}"));
-    let (mut reading, mut plans) = (Tally::default(), Tally::default());
+    let (mut reading, mut merges, mut plans) = (Tally::default(), Tally::default(), Tally::default());
     if runs("reading") {
         reading::run(cases as usize, seed, &mut reading);
         reading.print("reading");
+    }
+    if runs("merges") {
+        merging::run(number("--merges", 100_000) as usize, seed, &mut merges);
+        let (by, [first, second]) = (merges.by_number(), merges.images);
+        println!(
+            "merging: {} merges, {first} refused for the first image, {second} for the second, {} answers written out from the documents, \
+             answers by number{by}, {} differences",
+            merges.cases, merges.paper, merges.differences
+        );
     }
     if runs("plans") {
         quiet::run(number("--plans", 10_000) as usize, seed, &mut plans);
@@ -67,11 +78,11 @@ fn main() {
             playing.add(&tally);
         }
     }
-    let differences = reading.differences + plans.differences + playing.differences + powers.differences;
+    let differences = [&reading, &merges, &plans, &playing, &powers].iter().map(|t| t.differences).sum::<u64>();
     let cases = reading.cases + playing.cases;
     println!(
-        "compare: seed {seed}, {cases} cases, {} samples, {} noise powers, {} plans, {differences} differences",
-        playing.samples, powers.cases, plans.cases
+        "compare: seed {seed}, {cases} cases, {} samples, {} noise powers, {} plans, {} merges, {differences} differences",
+        playing.samples, powers.cases, plans.cases, merges.cases
     );
     if differences > 0 {
         std::process::exit(1)

@@ -109,6 +109,7 @@ pub fn run(race: &Race) {
             || drop(black_box(oracle::shim::read(black_box(image)).unwrap().to_bytes())),
         );
     }
+    crate::merging::race(race);
     crate::quiet::race(race);
     #[cfg(playing)]
     crate::playing::race(race);

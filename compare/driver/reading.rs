@@ -106,8 +106,32 @@ pub fn check(c: &Case, tally: &mut Tally) -> Result<(), String> {
     Ok(())
 }
 
-fn hex(l: &[u8]) -> String {
+pub fn hex(l: &[u8]) -> String {
     l.iter().map(|b| format!("{b:02X} ")).collect()
+}
+
+// What is left of a list when parts of it, first long ones and then single ones, are left out as long as it fails.
+pub fn left_out<T: Clone>(list: &[T], fails: impl Fn(&[T]) -> bool) -> Vec<T> {
+    let mut best = list.to_vec();
+    let mut n = best.len().div_ceil(2).max(1);
+    loop {
+        let mut i = 0;
+        let mut gone = false;
+        while i < best.len() {
+            let mut d = best.clone();
+            d.drain(i..(i + n).min(d.len()));
+            if fails(&d) {
+                best = d;
+                gone = true;
+            } else {
+                i += n;
+            }
+        }
+        if n == 1 && !gone {
+            return best;
+        }
+        n = (n / 2).max(1);
+    }
 }
 
 // The smallest failing case found by leaving out bytes, then by setting bytes to 0.
@@ -121,25 +145,7 @@ fn shrunk(c: &Case) -> Case {
             break;
         }
     }
-    let mut n = best.image.len().div_ceil(2).max(1);
-    loop {
-        let mut i = 0;
-        let mut gone = false;
-        while i < best.image.len() {
-            let mut d = best.clone();
-            d.image.drain(i..(i + n).min(d.image.len()));
-            if fails(&d) {
-                best = d;
-                gone = true;
-            } else {
-                i += n;
-            }
-        }
-        if n == 1 && !gone {
-            break;
-        }
-        n = (n / 2).max(1);
-    }
+    best.image = left_out(&best.image, |image| fails(&Case { image: image.to_vec(), ..best }));
     for i in 0..best.image.len().min(4096) {
         let mut d = best.clone();
         d.image[i] = 0;
@@ -162,20 +168,20 @@ pub fn run_case(c: &Case, tally: &mut Tally) {
     }
 }
 
-fn one_entry(m: usize, k: u32, j: u32, n: usize, meta: Vec<(Vec<u8>, u32)>) -> Entry {
+pub fn one_entry(m: usize, k: u32, j: u32, n: usize, meta: Vec<(Vec<u8>, u32)>) -> Entry {
     Entry { f0: 220f32.to_bits(), stretch: 1f32.to_bits(), partials: vec![0x3F800000; m], k, j, coeffs: vec![0x3F000000; n], meta }
 }
 
-fn good(entries: Vec<Entry>) -> Table {
+pub fn good(entries: Vec<Entry>) -> Table {
     Table { version: 1, name: b"oboe".to_vec(), entries, tail: Vec::new() }
 }
 
-fn spans(l: &[&[(&[u8], u32)]]) -> Table {
+pub fn spans(l: &[&[(&[u8], u32)]]) -> Table {
     good(l.iter().map(|s| one_entry(1, 1, 1, 2, s.iter().map(|&(k, v)| (k.to_vec(), v)).collect())).collect())
 }
 
 // Good images that the lists below start from.
-fn samples() -> Vec<Table> {
+pub fn samples() -> Vec<Table> {
     vec![
         good(vec![]),
         good(vec![one_entry(1, 1, 1, 2, vec![])]),
@@ -183,6 +189,19 @@ fn samples() -> Vec<Table> {
         spans(&[&[(MIN_KEY, 0x42A00000), (MAX_KEY, 0x463B8000)], &[(MIN_KEY, 0x42A00000), (MAX_KEY, 0x463B8000)]]),
         Table { version: 0, ..good(vec![one_entry(0, 0, 5, 0, vec![(vec![], 0)])]) },
     ]
+}
+
+// An image cut at every length, with bytes after the end, and with every byte damaged.
+pub fn each_damage(image: &[u8], f: &mut impl FnMut(Vec<u8>)) {
+    (0..=image.len()).for_each(|n| f(image[..n].to_vec()));
+    f([image, &[0xFF; 5]].concat());
+    for i in 0..image.len() {
+        for b in [0, 0xFF, image[i] ^ 1, image[i] ^ 0x80, image[i].wrapping_add(1)] {
+            let mut d = image.to_vec();
+            d[i] = b;
+            f(d);
+        }
+    }
 }
 
 // The cases that are the same at each run.
@@ -194,17 +213,7 @@ pub fn fixed_cases(f: &mut impl FnMut(Case)) {
     };
     for t in samples() {
         let (image, counts) = t.written();
-        // every length, also with bytes after the end
-        (0..=image.len()).for_each(|n| case(image[..n].to_vec()));
-        case([&image[..], &[0xFF; 5]].concat());
-        // every byte damaged
-        for i in 0..image.len() {
-            for b in [0, 0xFF, image[i] ^ 1, image[i] ^ 0x80, image[i].wrapping_add(1)] {
-                let mut d = image.clone();
-                d[i] = b;
-                case(d);
-            }
-        }
+        each_damage(&image, &mut case);
         // every count at its limits, and two of them together
         for &at in &counts {
             for v in COUNTS {

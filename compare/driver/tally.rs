@@ -5,10 +5,12 @@ pub struct Tally {
     pub samples: u64,
     pub calls: u64,
     pub differences: u64,
-    // expected answers that are document 01's where the original has none
+    // expected answers that are the documents' where the original has none
     pub paper: u64,
     // answers by their number
-    pub numbers: [u64; 21],
+    pub numbers: [u64; 24],
+    // of merges: refusals of the first image, and of the second
+    pub images: [u64; 2],
 }
 
 impl Tally {
@@ -22,6 +24,7 @@ impl Tally {
         self.differences += other.differences;
         self.paper += other.paper;
         self.numbers.iter_mut().zip(other.numbers).for_each(|(a, b)| *a += b);
+        self.images.iter_mut().zip(other.images).for_each(|(a, b)| *a += b);
     }
     // Counts one difference and tells the first three: what differed, the smallest case with a difference that was found, and what differs there.
     pub fn difference(&mut self, what: &str, smallest: impl FnOnce() -> (String, String)) {

@@ -1,5 +1,5 @@
 // The library from Rust: reads a table, makes a voice of it, plays a block, goes on at another sample rate, plays softer by a plan of quiet
-// windows, and prints the first samples.
+// windows, prints the first samples, and makes one table of two.
 // Build it beside the static library (`rt staticlib sounder`):
 //   rustc -O --edition 2024 -C link-arg=target/staticlib/libsounder.a -o target/tone examples/rust/tone.rs
 // include/sounder.h says what each function promises; the declarations below are the same.
@@ -19,6 +19,14 @@ struct DeskAnswer {
     bands: u32,
     min_hz: u32,
     max_hz: u32,
+}
+
+// `image`: which of the two a refusal 1 to 7 speaks of, 1 or 2; else 0.
+#[repr(C)]
+#[derive(Debug)]
+struct MergeAnswer {
+    answer: Answer,
+    image: u32,
 }
 
 #[repr(C)]
@@ -112,6 +120,10 @@ struct QuietAnswer {
 unsafe extern "C" {
     fn sounder_from_bytes(image: *const u8, len: usize) -> Answer;
     fn sounder_desk(kind: u32, channel: u32, image: *const u8, len: usize) -> DeskAnswer;
+    #[rustfmt::skip]
+    fn sounder_merge(
+        first: *const u8, first_len: usize, second: *const u8, second_len: usize, target: *mut u8, target_len: usize,
+    ) -> MergeAnswer;
     fn sounder_make(kind: u32, channel: u32, image: *const u8, len: usize, rate: f32, centres: *const f32, centres_len: usize) -> MadeAnswer;
     #[rustfmt::skip]
     fn sounder_play(
@@ -127,15 +139,15 @@ unsafe extern "C" {
     fn sounder_quiet_gain(plan: Plan, minute: u32) -> QuietAnswer;
 }
 
-// A table with one entry of pitch 880: one channel, three partials and a noise band.
-fn image() -> Vec<u8> {
+// A table with one entry of a pitch: one channel, three partials and a noise band.
+fn image(pitch: f32) -> Vec<u8> {
     let mut b = b"MSCT\x01\x00\x04\x00\x00\x00tone\x01\x00\x00\x00".to_vec();
     let mut word = |w: u32| b.extend(w.to_le_bytes());
-    word(880f32.to_bits()); // pitch
+    word(pitch.to_bits());
     word(1f32.to_bits()); // stretch
     word(3); // partial frequencies, which no voice looks at
-    for f in [880f32, 1760.0, 2640.0] {
-        word(f.to_bits());
+    for i in [1f32, 2.0, 3.0] {
+        word((pitch * i).to_bits());
     }
     word(1); // channels
     word(1); // noise bands
@@ -162,7 +174,7 @@ fn play_in(voice: &mut Voice, shape: Shape, freq: &[f32], gain: &[f32], out: &mu
 }
 
 fn main() {
-    let image = image();
+    let (image, extra) = (image(880.0), image(440.0));
     let read = unsafe { sounder_from_bytes(image.as_ptr(), image.len()) };
     println!("read: {read:?}");
     assert_eq!(read, Answer { number: 0, first: 1, second: image.len() });
@@ -222,4 +234,16 @@ fn main() {
     assert!(number == 0 && softly.iter().zip(&heard).all(|(a, b)| (a - 0.3 * b).abs() < 1e-6));
     // the voice is the one that plays without a plan
     assert!(soft.state.phases == own.state.phases && soft.state.memories == own.state.memories && soft.state.noise == own.state.noise);
+
+    // a pitch that was added later: both tables as one, the lower pitch first; 65,536 bytes hold every result
+    let mut target = vec![0u8; 65536];
+    let merged = unsafe { sounder_merge(image.as_ptr(), image.len(), extra.as_ptr(), extra.len(), target.as_mut_ptr(), target.len()) };
+    println!("merged: {merged:?}");
+    assert!(merged.answer == Answer { number: 0, first: 2, second: image.len() + extra.len() - 18 } && merged.image == 0);
+    let both = &target[..merged.answer.second];
+    let made = unsafe { sounder_make(0, 0, both.as_ptr(), both.len(), 48000.0, centres.as_ptr(), centres.len()) };
+    assert!(made.answer.number == 0 && made.voice.count == 2 && made.voice.f0_hz[..2] == [440.0, 880.0]);
+    // a table that was cut short is refused, and which of the two it is
+    let cut = unsafe { sounder_merge(image.as_ptr(), image.len(), extra.as_ptr(), 20, target.as_mut_ptr(), target.len()) };
+    assert!(cut.answer == Answer { number: 2, first: 0, second: 0 } && cut.image == 2);
 }
