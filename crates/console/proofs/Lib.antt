@@ -8,3 +8,6 @@ pub mod CentresExamples
 pub mod PiecesLaws
 pub mod PlansLaws
 pub mod PlansExamples
+pub mod CrcLaws
+pub mod CrcExamples
+pub mod OutputLaws

@@ -7,3 +7,5 @@ pub mod Centres
 pub mod Reader
 pub mod Edges
 pub mod Plans
+pub mod Crc
+pub mod Output

@@ -1,4 +1,4 @@
-// What a refusal means, in words. The numbers 1 to 17 are document 01's, and 18 to 20 document 02's.
+// What a refusal means, in words. The numbers 1 to 17 are document 01's, and 18 to 23 document 02's.
 use crate::say;
 use sounder::Answer;
 
@@ -101,7 +101,16 @@ fn plan(fd: i32, a: Answer) {
             say::number(fd, a.first as u64);
             say::text(fd, b" has a loudness step above 100");
         }
-        20 => say::text(fd, b"the minute is above 10079, the last of the week"),
+        _ => say::text(fd, b"the minute is above 10079, the last of the week"),
+    }
+}
+
+// The words for questions 21 to 23, of a merge.
+fn merging(fd: i32, number: u32) {
+    match number {
+        21 => say::text(fd, b"the noise band spans of the two tables do not agree"),
+        22 => say::text(fd, b"the merged table would be longer than 65536 bytes"),
+        23 => say::text(fd, b"the target is too short for the merged table"),
         _ => say::text(fd, b"no refusal has this number"),
     }
 }
@@ -120,10 +129,27 @@ pub fn refusal(fd: i32, a: Answer) {
             if a.number < 18 {
                 playing(fd, a.number);
             } else {
-                plan(fd, a);
+                if a.number < 21 {
+                    plan(fd, a);
+                } else {
+                    merging(fd, a.number);
+                }
             }
         }
     }
+}
+
+// What is said of a table that was accepted: its name, how many entries it has, and how many of the image's bytes they take. `read` is the
+// reading's answer.
+pub fn accepted(fd: i32, name: &[u8], read: Answer, bytes: usize) {
+    say::text(fd, b"accepted: \"");
+    say::name(fd, name);
+    say::text(fd, b"\", ");
+    say::counted(fd, read.first as u64, b" entry, ", b" entries, ");
+    say::number(fd, read.second as u64);
+    say::text(fd, b" bytes used of ");
+    say::number(fd, bytes as u64);
+    say::text(fd, b"\n");
 }
 
 // The words for question 12 where the centres are not as many as the voice needs.

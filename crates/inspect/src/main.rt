@@ -42,14 +42,7 @@ fn describe(image: &[u8], given: bool, centres: &[f32]) -> bool {
         words::refusal(1, read);
         return false;
     }
-    say::text(1, b"accepted: \"");
-    say::name(1, table::read::name(image));
-    say::text(1, b"\", ");
-    say::counted(1, read.first as u64, b" entry, ", b" entries, ");
-    say::number(1, read.second as u64);
-    say::text(1, b" bytes used of ");
-    say::number(1, image.len() as u64);
-    say::text(1, b"\n");
+    words::accepted(1, table::read::name(image), read, image.len());
     let channels = entry::all(image);
     voices::all(image, channels, given, centres)
 }

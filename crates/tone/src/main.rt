@@ -1,11 +1,9 @@
 // Plays a coefficient table to a WAV file: a table, a voice of it, blocks of 128 samples, and a file of 32-bit floats.
 //
 // The file is written under its name with .part at its end, and gets its name once every byte has reached the disk; where anything
-// fails, the .part is removed. So a file of the name asked for is whole, or empty where the program was ended in the moment between the
-// taking of the name and the renaming (output.rt). A name that is there already is left alone.
+// fails, the .part is removed (console/src/output.rt). A name that is there already is left alone.
 // A Rattle program has no exit status: everything that goes wrong is said on standard error, and nothing else is, so the shell
 // script tools/tone turns words there into status 1, and into 2 where the last of them are those of wrong use.
-mod crc;
 mod options;
 mod output;
 mod plan;
@@ -236,24 +234,13 @@ fn run(o: Options) {
     play_image(o, &image[..n], &values[..k], l);
 }
 
-// Whether standard output is open. Where it is not, the file that is made would get its number, and what is said there would go into it.
-fn can_say() -> bool {
-    if libc::isatty(1) == 0 {
-        if os::errno() == libc::EBADF {
-            os::fail(b"standard output");
-            return false;
-        }
-    }
-    true
-}
-
 fn main() {
     let o = options::read();
     if !options::is_right(o) {
         say::wrong_use(b"tone");
         return;
     }
-    if !can_say() {
+    if console::output::standard_output() < 0 {
         return;
     }
     if o.help {

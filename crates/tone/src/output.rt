@@ -1,7 +1,5 @@
 // The file: made under a name of its own, filled block by block, and given its name at the end.
 ghost use Prim.Native.Nat.{_<_, _≤_};
-ghost use Rattle.io.specs.Counts.{Counts};
-use crate::crc;
 use crate::options::Options;
 use crate::playing::Run;
 use crate::playing::block;
@@ -9,6 +7,9 @@ use crate::playing::retuned;
 use crate::sink;
 use crate::sink::Sink;
 use crate::wav;
+use console::crc;
+use console::output;
+use console::output::Program;
 use console::say;
 use console::words;
 use sounder::Answer;
@@ -148,11 +149,11 @@ fn fill_file(o: Options, fd: i32, voice: Voice, total: u32) -> Run {
     fill_all(o, fd, start, total)
 }
 
-// Whether the file is there in full: every byte written, and on its device.
-fn is_whole(run: Run, fd: i32, path: &[u8]) -> bool {
+// Whether every sample was played and written. Where not, why has been said.
+fn is_whole(run: Run, part: &[u8]) -> bool {
     let s = run.sink;
     if s.short {
-        say::failed(path);
+        say::failed(part);
         return false;
     }
     if run.number != 0 {
@@ -165,10 +166,6 @@ fn is_whole(run: Run, fd: i32, path: &[u8]) -> bool {
             },
         );
         say::text(2, b"\n");
-        return false;
-    }
-    if libc::fsync(fd) < 0 {
-        say::failed(path);
         return false;
     }
     true
@@ -196,143 +193,27 @@ fn report(path: &[u8], o: Options, run: Run, total: u32) {
     }
 }
 
-// Says that a name is taken.
-fn say_taken(path: &[u8]) {
-    say::name(2, path);
-    say::text(2, b": there already, and tone writes over nothing\n");
-}
-
-// Gives the whole part its name. The name is taken first, by a new file, which the system makes only where nothing has the name,
-// a link that leads nowhere among them; that file is the one that the renaming replaces. Answers whether the name was given.
-fn give_name(path: &[u8], part: &[u8]) -> bool {
-    let own = os::create(path);
-    if own < 0 {
-        if os::errno() == libc::EEXIST {
-            say_taken(path);
-        } else {
-            say::failed(path);
-        }
-        return false;
-    }
-    libc::close(own);
-    if os::rename(part, path) < 0 {
-        say::failed(path);
-        os::unlink(path);
-        return false;
-    }
-    true
-}
-
-// Says that the part cannot be made, and where one is there, why that may be.
-fn no_part(part: &[u8]) {
-    let there = os::errno() == libc::EEXIST;
-    say::failed(part);
-    if there {
-        say::text(
-            2,
-            b"if its run is under way, wait until that ends; if none is, an interrupted run left it: remove it, then play again\n",
-        );
-    }
-}
-
-// Whether the part is still the file that is open as `fd`. It may have been removed while tone played, and another run may have made its
-// own: then none has the name, or one with another number of bytes. (A part that cannot be opened for another reason counts as tone's.)
-fn is_own(fd: i32, part: &[u8]) -> bool {
-    let named = os::open_read(part);
-    if named < 0 {
-        return os::errno() != libc::ENOENT;
-    }
-    let same = libc::lseek(named, 0, libc::SEEK_END) == libc::lseek(fd, 0, libc::SEEK_END);
-    libc::close(named);
-    same
-}
-
-// Says that the part is not tone's any more.
-fn say_lost(path: &[u8], part: &[u8]) {
-    say::name(2, part);
-    say::text(2, b": removed or replaced while tone played, so ");
-    say::name(2, path);
-    say::text(2, b" is not written\n");
-}
-
-// Plays into the part, which becomes the file once it is whole, and is removed where it is not. A part of another run is left alone.
+// Plays into the part, which becomes the file once it is whole, and is removed where it is not.
 fn make_file(o: Options, voice: Voice, path: &[u8], part: &[u8]) {
-    let fd = os::create(part);
+    let fd = output::open(Program::Tone, part);
     if fd < 0 {
-        no_part(part);
         return;
     }
     let total = samples(o.micros, o.rate);
     let run = fill_file(o, fd, voice, total);
-    let whole = is_whole(run, fd, part);
-    let own = is_own(fd, part);
-    let closed = libc::close(fd);
-    if !own {
-        say_lost(path, part);
-        return;
+    let whole = is_whole(run, part);
+    if output::keep(Program::Tone, fd, path, part, whole, false) {
+        report(path, o, run, total);
     }
-    if whole {
-        if closed < 0 {
-            say::failed(part);
-        } else {
-            if give_name(path, part) {
-                report(path, o, run, total);
-                return;
-            }
-        }
-    }
-    os::unlink(part);
-}
-
-// Whether something has the name already, whatever it is: also a link that leads nowhere.
-fn is_taken(mut path: [u8; 4096]) -> bool {
-    path[4095] = 0;
-    if libc::access(&path, libc::F_OK) == 0 {
-        return true;
-    }
-    let mut target = [0u8; 1];
-    0 <= libc::readlink(&path, &mut target)
-}
-
-// Puts .part after a name of n bytes, and answers how long the two are; 0 where there is no room.
-fn put_part(path: &mut [u8], n: usize) -> usize
-    ensures { λ r. ⌜ Counts r (now (path .exit)) ⌝ }
-{
-    if path.len() < 6 {
-        return 0;
-    }
-    if path.len() - 6 < n {
-        return 0;
-    }
-    path[n] = 46;
-    path[n + 1] = 112;
-    path[n + 2] = 97;
-    path[n + 3] = 114;
-    path[n + 4] = 116;
-    n + 5
-}
-
-// The argument that names the file, with zeros after it.
-fn name_of(o: Options) -> [u8; 4096] {
-    let mut path = io::buffer();
-    os::arg(o.out, &mut path);
-    path
 }
 
 pub fn write(o: Options, voice: Voice) {
     let mut path = io::buffer();
-    let n = os::arg(o.out, &mut path);
-    if 4080 < n {
-        say::text(2, b"tone: the name of the file to write is too long\n");
-        return;
-    }
-    let again = name_of(o);
-    if is_taken(again) {
-        say_taken(&path[..n]);
+    let n = output::name(Program::Tone, o.out, false, &mut path);
+    if n == 0 {
         return;
     }
     let mut part = io::buffer();
-    let m = os::arg(o.out, &mut part);
-    let k = put_part(&mut part, m);
+    let k = output::part(o.out, &mut part);
     make_file(o, voice, &path[..n], &part[..k]);
 }

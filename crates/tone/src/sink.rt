@@ -1,5 +1,5 @@
 // Bytes on their way into the file, with their checksum.
-use crate::crc;
+use console::crc;
 
 // The running checksum, and whether a write failed or was short; then nothing more is written.
 pub struct Sink {
@@ -9,7 +9,7 @@ pub struct Sink {
 
 pub fn new() -> Sink {
     Sink {
-        crc: 0xffff_ffff,
+        crc: crc::START,
         short: false,
     }
 }
