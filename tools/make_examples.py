@@ -73,19 +73,28 @@ def centres_file(what, n, lo, hi):
     return '\n'.join(lines + [decimal(c) for c in centres(n, lo, hi)]) + '\n'
 
 
-def locating_tone():
-    """The slow tick that tells where the button is: a wooden knock. A few partials, stretched as those of a bar are, that fall off
-    quickly, and as much noise around them: four bands from 400 to 6,000 Hz. Played for a few hundredths of a second, once a second
-    or slower."""
+def knocks(*pitches):
+    """Entries of a wooden knock, each of a pitch and how bright it is. A few partials, stretched as those of a bar are, that fall off
+    quickly, and as much noise around them: four bands from 400 to 6,000 Hz."""
     span = [('noise_band_min_hz', 400.0), ('noise_band_max_hz', 6000.0)]
     out = []
-    for pitch, bright in ((440.0, 0.45), (880.0, 0.55), (1760.0, 0.65)):
+    for pitch, bright in pitches:
         partials = [bright ** m for m in range(8)]
         noise = [1.0, 0.8, 0.5, 0.25]
         row = [0.6 * w for w in unit(partials)] + [0.4 * w for w in unit(noise)]
         out.append(entry(pitch, 1.006, [pitch * (m + 1) for m in range(8)], [row], 4,
                          [('mainlobe_gain', 1.0), ('noise_gain', 0.25)] + span))
-    return table('locating tone', out)
+    return out
+
+
+def locating_tone():
+    """The slow tick that tells where the button is: a wooden knock, played for a few hundredths of a second, once a second or slower."""
+    return table('locating tone', knocks((440.0, 0.45), (880.0, 0.55), (1760.0, 0.65)))
+
+
+def extra_pitches():
+    """What a planner adds to the locating tone: pitches between its own, the highest first, and a duller knock at one that it has."""
+    return table('extra pitches of Mill Street', knocks((1320.0, 0.6), (880.0, 0.3), (660.0, 0.5)))
 
 
 def green_man():
@@ -163,7 +172,10 @@ def files():
         run + 'version-2.msct': b'MSCT' + struct.pack('<H', 2),
         'crates/tone/data/green-man.msct': green_man(),
         'crates/tone/data/green-man.centres': centres_file('green-man.msct', 6, 80.0, 12000.0).encode(),
+        'crates/merge/data/locating-tone.msct': locating_tone(),
+        'crates/merge/data/extra-pitches.msct': extra_pitches(),
         here + 'locating-tone.msct': locating_tone(),
+        here + 'extra-pitches.msct': extra_pitches(),
         here + 'locating-tone.centres': centres_file('locating-tone.msct', 4, 400.0, 6000.0).encode(),
         here + 'green-man.msct': green_man(),
         here + 'green-man.centres': centres_file('green-man.msct', 6, 80.0, 12000.0).encode(),
