@@ -2,6 +2,7 @@
 // compare/driver wrote the lists in data/; data/README says how.
 // In a damaged list each record has one wrong answer: every one must be found.
 mod list;
+mod merging;
 mod places;
 mod playing;
 mod reading;
@@ -19,6 +20,9 @@ use tally::start;
 fn record(kind: u32, t: Tally, r: &[u8]) -> Tally {
     if kind == 0 {
         return reading::record(t, r);
+    }
+    if kind == 1 {
+        return merging::record(t, r);
     }
     playing::record(t, r)
 }
@@ -67,9 +71,9 @@ fn say(n: u64, what: &[u8]) {
 }
 
 // The answers by number, those that there are.
-fn numbers(answers: [u64; 18]) {
+fn numbers(answers: [u64; 24]) {
     let mut i = 0;
-    while i < 18 {
+    while i < 24 {
         if 0 < answers[i] {
             io::write_all(1, b" ");
             io::print_decimal(1, i as u64);
@@ -104,11 +108,13 @@ fn replay(kind: u32, path: &[u8]) {
 
 fn main() {
     replay(0, b"reading");
-    replay(1, b"playing");
+    replay(1, b"merging");
+    replay(2, b"playing");
     io::write_all(
         1,
         b"In each record of a damaged list one answer is wrong:\n",
     );
     replay(0, b"reading.damaged");
-    replay(1, b"playing.damaged");
+    replay(1, b"merging.damaged");
+    replay(2, b"playing.damaged");
 }

@@ -120,7 +120,7 @@ fn wide(b: u8) -> u32 {
     b as u32
 }
 
-fn same_bytes(t: Tally, what: &[u8], ours: &[u8], theirs: &[u8]) -> Tally {
+pub fn same_bytes(t: Tally, what: &[u8], ours: &[u8], theirs: &[u8]) -> Tally {
     let mut t = same(t, what, 0, narrow(ours.len()), narrow(theirs.len()));
     let mut i = 0;
     while i < ours.len() && i < theirs.len() {
@@ -131,7 +131,7 @@ fn same_bytes(t: Tally, what: &[u8], ours: &[u8], theirs: &[u8]) -> Tally {
 }
 
 // A target with bytes at its start; no target in a list is longer.
-fn target_of(from: &[u8]) -> [u8; 4096]
+pub fn target_of(from: &[u8]) -> [u8; 4096]
     ensures { λ r. ⌜ 4096 ≡ length r ⌝ }
 {
     let mut target = [0; 4096];
