@@ -5,18 +5,6 @@ use borrow.Author.Needs.{needs}
 use Rattle.merging.proofs.extent.extent_of.Statement.{statement}
 use Rattle.merging.proofs.extent.extent_of.Tie as tie
 
-u32-requires : tie.Need-u32-requires
-u32-requires c κs = search needs
-
-enum-known-n : tie.Need-enum-known-n
-enum-known-n c = search needs
-
-cast-t8 : tie.Need-cast-t8
-cast-t8 c = search needs
-
-add-t9 : tie.Need-add-t9
-add-t9 c = search needs
-
 enum-told : tie.Need-enum-told
 enum-told c = search needs
 
@@ -35,4 +23,11 @@ returns-2 c =
 
 pub extent-of-spec : {M : Type 1} → statement M
 extent-of-spec =
-    tie.close (tie.spec u32-requires enum-known-n cast-t8 add-t9 enum-told returns returns-2)
+    tie.close (tie.spec
+    (λ c κs. search needs)
+    (λ c. search needs)
+    (λ c. search needs)
+    (λ c. search needs)
+    enum-told
+    returns
+    returns-2)

@@ -8,9 +8,6 @@ use borrow.Author.Needs.{needs}
 use Rattle.merging.proofs.head.put_head.Statement.{statement}
 use Rattle.merging.proofs.head.put_head.Tie as tie
 
-sub-m : tie.Need-sub-m
-sub-m c = search needs
-
 copy-part-requires : tie.Need-copy-part-requires
 copy-part-requires c κs =
     let b3 = c .before .before .before in
@@ -20,9 +17,6 @@ copy-part-requires c κs =
     let e : b4 .args .x .at ≡ 14 + length (nameOf (decode (b4 .args .first .now))) = b4 .pre .0 .start in
     let o : b4 .args .x .at ≤ length (b4 .args .target .now) = b4 .pre .1 in
     (omega arith, omega arith, omega arith)
-
-slice-write-target : tie.Need-slice-write-target
-slice-write-target c = search needs
 
 slice-write-target-2 : tie.Need-slice-write-target-2
 slice-write-target-2 c =
@@ -63,9 +57,9 @@ pub put-head-spec : {M : Type 1} → statement M
 put-head-spec =
     tie.close
     (tie.spec
-    sub-m
+    (λ c. search needs)
     copy-part-requires
-    slice-write-target
+    (λ c. search needs)
     slice-write-target-2
     put-u32-requires
     same-length

@@ -25,26 +25,8 @@ returns-2 c =
     let q = holds (b6 .args .second .now) (λ i. omega (arith, b4 .shared-slice-known2 .given i)) (b6 .args .y) (b6 .pre .1) in
     no-second (b6 .args .first .now) (b6 .args .second .now) (b6 .args .x) (b6 .args .y) p q (c .if2 .taken)
 
-entry-at-requires : tie.Need-entry-at-requires
-entry-at-requires c κs = search needs
-
 enum-told : tie.Need-enum-told
 enum-told c = search needs
-
-enum-known-v : tie.Need-enum-known-v
-enum-known-v c = search needs
-
-entry-at-requires-2 : tie.Need-entry-at-requires-2
-entry-at-requires-2 c κs = search needs
-
-enum-told-2 : tie.Need-enum-told-2
-enum-told-2 c = search needs
-
-enum-known-w : tie.Need-enum-known-w
-enum-known-w c = search needs
-
-spans-agree-requires : tie.Need-spans-agree-requires
-spans-agree-requires c κs = search needs
 
 returns-3 : tie.Need-returns-3
 returns-3 c =
@@ -90,13 +72,13 @@ joined-agree-spec =
     (tie.spec
     returns
     returns-2
-    entry-at-requires
+    (λ c κs. search needs)
     enum-told
-    enum-known-v
-    entry-at-requires-2
-    enum-told-2
-    enum-known-w
-    spans-agree-requires
+    (λ c. search needs)
+    (λ c κs. search needs)
+    (λ c. search needs)
+    (λ c. search needs)
+    (λ c κs. search needs)
     returns-3
     returns-4
     returns-5)

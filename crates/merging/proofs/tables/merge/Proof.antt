@@ -5,24 +5,6 @@ use borrow.Author.Needs.{needs}
 use Rattle.merging.proofs.tables.merge.Statement.{statement}
 use Rattle.merging.proofs.tables.merge.Tie as tie
 
-from-bytes-requires : tie.Need-from-bytes-requires
-from-bytes-requires c κs = search needs
-
-enum-known-e : tie.Need-enum-known-e
-enum-known-e c = search needs
-
-enum-known-n : tie.Need-enum-known-n
-enum-known-n c = search needs
-
-from-bytes-requires-2 : tie.Need-from-bytes-requires-2
-from-bytes-requires-2 c κs = search needs
-
-enum-known-e-2 : tie.Need-enum-known-e-2
-enum-known-e-2 c = search needs
-
-enum-known-m : tie.Need-enum-known-m
-enum-known-m c = search needs
-
 extent-of-requires : tie.Need-extent-of-requires
 extent-of-requires c κs =
     let b5 = c .before .before .before .before .before in
@@ -34,9 +16,6 @@ extent-of-requires-2 c κs =
     let b2 = c .before .before in
     let b4 = b2 .before .before in
     sym (b4 .from-bytes2 .ensures) ∙ ap readingParsed (b2 .m .given .1)
-
-merge-accepted-requires : tie.Need-merge-accepted-requires
-merge-accepted-requires c κs = search needs
 
 returns : tie.Need-returns
 returns c =
@@ -54,26 +33,20 @@ returns-2 c =
     let b11 = b7 .before .before .before .before in
     second-no (b11 .args .first .now) (b11 .args .second .now) _ _ _ (b11 .args .target .now) (sym (b7 .from-bytes .ensures) ∙ ap readingParsed (b5 .n .given .1)) (sym (b3 .from-bytes2 .ensures) ∙ ap readingParsed (b1 .e2 .given .1))
 
-same-length : tie.Need-same-length
-same-length c = search needs
-
-returns-3 : tie.Need-returns-3
-returns-3 c = search needs
-
 pub merge-spec : {M : Type 1} → statement M
 merge-spec =
     tie.close
     (tie.spec
-    from-bytes-requires
-    enum-known-e
-    enum-known-n
-    from-bytes-requires-2
-    enum-known-e-2
-    enum-known-m
+    (λ c κs. search needs)
+    (λ c. search needs)
+    (λ c. search needs)
+    (λ c κs. search needs)
+    (λ c. search needs)
+    (λ c. search needs)
     extent-of-requires
     extent-of-requires-2
-    merge-accepted-requires
+    (λ c κs. search needs)
     returns
     returns-2
-    same-length
-    returns-3)
+    (λ c. search needs)
+    (λ c. search needs))

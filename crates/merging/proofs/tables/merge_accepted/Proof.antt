@@ -9,9 +9,6 @@ use borrow.Author.Needs.{needs}
 use Rattle.merging.proofs.tables.merge_accepted.Statement.{statement}
 use Rattle.merging.proofs.tables.merge_accepted.Tie as tie
 
-joined-agree-requires : tie.Need-joined-agree-requires
-joined-agree-requires c κs = search needs
-
 sub-bytes : tie.Need-sub-bytes
 sub-bytes c =
     let b3 = c .before .before .before in
@@ -89,9 +86,6 @@ add-t8 c =
     let f : b15 .args .x .count + b15 .args .y .count ≤ 2340 = image-few (b15 .args .first .now) (b15 .args .second .now) (b15 .args .x) (b15 .args .y) p q (w .0) in
     omega arith
 
-same-length : tie.Need-same-length
-same-length c = search needs
-
 returns-4 : tie.Need-returns-4
 returns-4 c =
     let b4 = c .before .before .before .before in
@@ -110,7 +104,7 @@ pub merge-accepted-spec : {M : Type 1} → statement M
 merge-accepted-spec =
     tie.close
     (tie.spec
-    joined-agree-requires
+    (λ c κs. search needs)
     sub-bytes
     add-bytes
     returns
@@ -118,5 +112,5 @@ merge-accepted-spec =
     returns-3
     put-merged-requires
     add-t8
-    same-length
+    (λ c. search needs)
     returns-4)

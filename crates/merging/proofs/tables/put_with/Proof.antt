@@ -96,15 +96,6 @@ put-all-requires c κs =
     let a : length (b4 .put-head .last .1 .1 .1 .0) ≡ length (b20 .args .target .now) = b4 .put-head .kept .1 .1 .1 .0 in
     rw (b12 .ordered-keys .ensures) (omega arith)
 
-same-length : tie.Need-same-length
-same-length c = search needs
-
-same-length-2 : tie.Need-same-length-2
-same-length-2 c = search needs
-
-same-length-3 : tie.Need-same-length-3
-same-length-3 c = search needs
-
 returns : tie.Need-returns
 returns c =
     let b2 = c .before .before in
@@ -129,7 +120,7 @@ put-with-spec =
     slice-reshare-prefix-put-all
     slice-aggregate-put-all
     put-all-requires
-    same-length
-    same-length-2
-    same-length-3
+    (λ c. search needs)
+    (λ c. search needs)
+    (λ c. search needs)
     returns)

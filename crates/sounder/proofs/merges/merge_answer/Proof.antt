@@ -2,41 +2,8 @@ use borrow.Author.Needs.{needs}
 use Rattle.sounder.proofs.merges.merge_answer.Statement.{statement}
 use Rattle.sounder.proofs.merges.merge_answer.Tie as tie
 
-enum-known-m : tie.Need-enum-known-m
-enum-known-m c = search needs
-
-of-both-requires : tie.Need-of-both-requires
-of-both-requires c κs = search needs
-
-enum-known-m-2 : tie.Need-enum-known-m-2
-enum-known-m-2 c = search needs
-
-image-refused-requires : tie.Need-image-refused-requires
-image-refused-requires c κs = search needs
-
-enum-known-m-3 : tie.Need-enum-known-m-3
-enum-known-m-3 c = search needs
-
-image-refused-requires-2 : tie.Need-image-refused-requires-2
-image-refused-requires-2 c κs = search needs
-
 enum-told : tie.Need-enum-told
 enum-told c = search needs
-
-of-both-requires-2 : tie.Need-of-both-requires-2
-of-both-requires-2 c κs = search needs
-
-enum-told-2 : tie.Need-enum-told-2
-enum-told-2 c = search needs
-
-of-both-requires-3 : tie.Need-of-both-requires-3
-of-both-requires-3 c κs = search needs
-
-enum-told-3 : tie.Need-enum-told-3
-enum-told-3 c = search needs
-
-of-both-requires-4 : tie.Need-of-both-requires-4
-of-both-requires-4 c κs = search needs
 
 returns : tie.Need-returns
 returns c =
@@ -72,18 +39,18 @@ pub merge-answer-spec : {M : Type 1} → statement M
 merge-answer-spec =
     tie.close
     (tie.spec
-    enum-known-m
-    of-both-requires
-    enum-known-m-2
-    image-refused-requires
-    enum-known-m-3
-    image-refused-requires-2
+    (λ c. search needs)
+    (λ c κs. search needs)
+    (λ c. search needs)
+    (λ c κs. search needs)
+    (λ c. search needs)
+    (λ c κs. search needs)
     enum-told
-    of-both-requires-2
-    enum-told-2
-    of-both-requires-3
-    enum-told-3
-    of-both-requires-4
+    (λ c κs. search needs)
+    (λ c. search needs)
+    (λ c κs. search needs)
+    (λ c. search needs)
+    (λ c κs. search needs)
     returns
     returns-2
     returns-3

@@ -6,26 +6,8 @@ use borrow.Author.Needs.{needs}
 use Rattle.table.proofs.span.spans_agree.Statement.{statement}
 use Rattle.table.proofs.span.spans_agree.Tie as tie
 
-span-of-requires : tie.Need-span-of-requires
-span-of-requires c κs = search needs
-
-judge-requires : tie.Need-judge-requires
-judge-requires c κs = search needs
-
-span-of-requires-2 : tie.Need-span-of-requires-2
-span-of-requires-2 c κs = search needs
-
-judge-requires-2 : tie.Need-judge-requires-2
-judge-requires-2 c κs = search needs
-
-conclude-requires : tie.Need-conclude-requires
-conclude-requires c κs = search needs
-
 enum-told : tie.Need-enum-told
 enum-told c = search needs
-
-enum-told-2 : tie.Need-enum-told-2
-enum-told-2 c = search needs
 
 returns : tie.Need-returns
 returns c =
@@ -51,12 +33,12 @@ pub spans-agree-spec : {M : Type 1} → statement M
 spans-agree-spec =
     tie.close
     (tie.spec
-    span-of-requires
-    judge-requires
-    span-of-requires-2
-    judge-requires-2
-    conclude-requires
+    (λ c κs. search needs)
+    (λ c κs. search needs)
+    (λ c κs. search needs)
+    (λ c κs. search needs)
+    (λ c κs. search needs)
     enum-told
-    enum-told-2
+    (λ c. search needs)
     returns
     returns-2)
