@@ -1,7 +1,7 @@
 // Two tables made one: the first one's name, and the entries of both in pitch order.
 ghost use mathlib.Core.Path.{_≡_};
 ghost use mathlib.Core.List.{_++_};
-ghost use Prim.Native.Nat.{_≤_};
+ghost use Prim.Native.Nat.{_+_, _≤_};
 ghost use lib.ListN.{length, drop};
 ghost use Rattle.table.specs.Decode.{decode};
 ghost use Rattle.merging.specs.Merge.{merging, MergeLeaves};
@@ -40,7 +40,7 @@ fn put_with(
 )
     requires { ⌜ (AcceptedAt (now first) x) × (AcceptedAt (now second) y)
         × (ResultFits (decode (now first)) (decode (now second)) (length (now target)))
-        × (2340 ≤ length (now keys)) × (2340 ≤ length (now work)) ⌝ }
+        × (x .count + y .count ≤ length (now keys)) × (x .count + y .count ≤ length (now work)) ⌝ }
     ensures { λ _. ⌜ now (target .exit)
         ≡ stableOver (decode (now (first .entry))) (decode (now (second .entry))) (now (target .entry)) ⌝ }
 {
@@ -50,16 +50,43 @@ fn put_with(
     put_all(first, second, &keys[..k], target, x.at);
 }
 
-// The same in slices of its own: an entry takes 28 bytes at least and a head 14, so no more than 2,340 entries fit.
-fn put_merged(first: &[u8], x: Extent, second: &[u8], y: Extent, target: &mut [u8])
+// The same for few entries, as two voices' tables have: slices of this length are cleared in no time.
+fn put_few(first: &[u8], x: Extent, second: &[u8], y: Extent, target: &mut [u8])
     requires { ⌜ (AcceptedAt (now first) x) × (AcceptedAt (now second) y)
-        × (ResultFits (decode (now first)) (decode (now second)) (length (now target))) ⌝ }
+        × (ResultFits (decode (now first)) (decode (now second)) (length (now target))) × (x .count + y .count ≤ 64) ⌝ }
+    ensures { λ _. ⌜ now (target .exit)
+        ≡ stableOver (decode (now (first .entry))) (decode (now (second .entry))) (now (target .entry)) ⌝ }
+{
+    let mut keys = [0u64; 64];
+    let mut work = [0u64; 64];
+    put_with(first, x, second, y, &mut keys, &mut work, target);
+}
+
+// The same for any number: an entry takes 28 bytes at least and a head 14, so no more than 2,340 entries fit.
+fn put_many(first: &[u8], x: Extent, second: &[u8], y: Extent, target: &mut [u8])
+    requires { ⌜ (AcceptedAt (now first) x) × (AcceptedAt (now second) y)
+        × (ResultFits (decode (now first)) (decode (now second)) (length (now target))) × (x .count + y .count ≤ 2340) ⌝ }
     ensures { λ _. ⌜ now (target .exit)
         ≡ stableOver (decode (now (first .entry))) (decode (now (second .entry))) (now (target .entry)) ⌝ }
 {
     let mut keys = [0u64; 2340];
     let mut work = [0u64; 2340];
     put_with(first, x, second, y, &mut keys, &mut work, target);
+}
+
+// Writes the result, which fits.
+fn put_merged(first: &[u8], x: Extent, second: &[u8], y: Extent, target: &mut [u8])
+    requires { ⌜ (AcceptedAt (now first) x) × (AcceptedAt (now second) y)
+        × (ResultFits (decode (now first)) (decode (now second)) (length (now target))) ⌝ }
+    ensures { λ _. ⌜ now (target .exit)
+        ≡ stableOver (decode (now (first .entry))) (decode (now (second .entry))) (now (target .entry)) ⌝ }
+{
+    let entries = x.count + y.count;
+    if entries <= 64 {
+        put_few(first, x, second, y, target);
+    } else {
+        put_many(first, x, second, y, target);
+    }
 }
 
 // Questions 21 to 23 of two accepted images, and the writing. How long the result is goes by where the two end, before anything is written.

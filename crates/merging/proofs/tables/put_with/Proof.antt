@@ -21,8 +21,8 @@ ordered-keys-requires c κs =
     let p = holds (b7 .args .first .now) (λ i. omega (arith, b6 .shared-slice-known .given i)) (b7 .args .x) (b7 .pre .0) in
     let q = holds (b7 .args .second .now) (λ i. omega (arith, b5 .shared-slice-known2 .given i)) (b7 .args .y) (b7 .pre .1) in
     let f : b7 .args .x .count + b7 .args .y .count ≤ 2340 = image-few (b7 .args .first .now) (b7 .args .second .now) (b7 .args .x) (b7 .args .y) p q (b7 .pre .2 .0) in
-    let k : 2340 ≤ length (b7 .args .keys .now) = b7 .pre .3 in
-    let l : 2340 ≤ length (b7 .args .work .now) = b7 .pre .4 in
+    let k : b7 .args .x .count + b7 .args .y .count ≤ length (b7 .args .keys .now) = b7 .pre .3 in
+    let l : b7 .args .x .count + b7 .args .y .count ≤ length (b7 .args .work .now) = b7 .pre .4 in
     (b7 .pre .0, b7 .pre .1, omega arith, omega arith)
 
 add-k : tie.Need-add-k
@@ -65,7 +65,7 @@ slice-reshare-prefix-put-all c =
     let p = holds (b18 .args .first .now) (λ i. omega (arith, b17 .shared-slice-known .given i)) (b18 .args .x) (b18 .pre .0) in
     let q = holds (b18 .args .second .now) (λ i. omega (arith, b16 .shared-slice-known2 .given i)) (b18 .args .y) (b18 .pre .1) in
     let f : b18 .args .x .count + b18 .args .y .count ≤ 2340 = image-few (b18 .args .first .now) (b18 .args .second .now) (b18 .args .x) (b18 .args .y) p q (b18 .pre .2 .0) in
-    let k : 2340 ≤ length (b18 .args .keys .now) = b18 .pre .3 in
+    let k : b18 .args .x .count + b18 .args .y .count ≤ length (b18 .args .keys .now) = b18 .pre .3 in
     let a : length (b10 .ordered-keys .last .1 .1 .1 .1 .0) ≡ length (b18 .args .keys .now) = b10 .ordered-keys .kept .1 .1 .1 .1 .0 in
     omega arith
 
@@ -78,7 +78,7 @@ slice-aggregate-put-all c =
     let p = holds (b19 .args .first .now) (λ i. omega (arith, b18 .shared-slice-known .given i)) (b19 .args .x) (b19 .pre .0) in
     let q = holds (b19 .args .second .now) (λ i. omega (arith, b17 .shared-slice-known2 .given i)) (b19 .args .y) (b19 .pre .1) in
     let f : b19 .args .x .count + b19 .args .y .count ≤ 2340 = image-few (b19 .args .first .now) (b19 .args .second .now) (b19 .args .x) (b19 .args .y) p q (b19 .pre .2 .0) in
-    let k : 2340 ≤ length (b19 .args .keys .now) = b19 .pre .3 in
+    let k : b19 .args .x .count + b19 .args .y .count ≤ length (b19 .args .keys .now) = b19 .pre .3 in
     let a : length (b11 .ordered-keys .last .1 .1 .1 .1 .0) ≡ length (b19 .args .keys .now) = b11 .ordered-keys .kept .1 .1 .1 .1 .0 in
     sym (length-take-le (b19 .args .x .count + b19 .args .y .count) (b11 .ordered-keys .last .1 .1 .1 .1 .0) (omega arith))
 
