@@ -10,15 +10,14 @@ use Rattle.wire.specs.Parse.{Refusal, refusal, ok, refused}
 use Rattle.table.specs.Table.{CoeffTable}
 use Rattle.table.specs.Span.{Verdict, agreed, broken, consistent, agrees}
 use Rattle.table.specs.Decode.{decode, entriesOf}
-use Rattle.table.specs.Encode.{putAll, putEntry, encode}
+use Rattle.table.specs.Encode.{encode}
 use Rattle.table.specs.Answer.{counts}
 use Rattle.table.proofs.ReadLaws.{accepted-table, refused-is}
-use Rattle.table.proofs.RoundTrip.{Bytes, decode-encode}
+use Rattle.table.proofs.RoundTrip.{Bytes}
 use Rattle.merging.specs.Merge.{joined, MergeOutcome, written, firstRefused, secondRefused, mergeRefused, joinedOutcome, merging, MergedInto, MergeLeaves}
 use Rattle.merging.specs.declared.extent.Extent.{Extent}
 use Rattle.merging.specs.inner.Image.{stable, stableImage, stableOver, ResultFits}
-use Rattle.merging.proofs.LaidLaws.{put-append}
-use Rattle.merging.proofs.MergeLaws.{size-is, stable-merged, merged-size}
+use Rattle.merging.proofs.MergeLaws.{stable-merged, merged-size, joined-size}
 use Rattle.merging.proofs.ImageLaws.{Holds, holds-entries}
 
 -- an answer, and the target before and after, as the contract has them
@@ -32,21 +31,6 @@ first-no s v r before h = rw (refused-is s r h) (refl, refl)
 -- LAW: then comes the second's
 pub second-no : (s v : List ℕ) (n e : ℕ) (r : Refusal) (before : List ℕ) → counts (decode s) ≡ ok n e → counts (decode v) ≡ refused r → Answers s v (secondRefused r) before before
 second-no s v n e r before h g = accepted-table s n e h λ t p l. rw (p, refused-is v r g) (refl, refl)
-
-entries-size : (s : List ℕ) → Bytes s → (t : CoeffTable) (e : ℕ) → decode s ≡ ok t e → 14 + length (t .name) + length (putAll putEntry (t .entries)) ≡ e
-unfolding encode
-entries-size s byte t e h = sym (size-is t (t .entries)) ∙ decode-encode s byte t e h .1
-
--- LAW: the result's length, from where the two images end and the second's name
-pub joined-size : (s v : List ℕ) → Bytes s → Bytes v → (t u : CoeffTable) (e f : ℕ) → decode s ≡ ok t e → decode v ≡ ok u f
-    → length (encode (joined t u)) ≡ e + (f - (14 + length (u .name)))
-joined-size s v bs bv t u e f hs hv =
-    let k : 14 + length (t .name) + length (putAll putEntry (t .entries)) ≡ e = entries-size s bs t e hs in
-    let l : 14 + length (u .name) + length (putAll putEntry (u .entries)) ≡ f = entries-size v bv u f hv in
-    let r : length (putAll putEntry (t .entries ++ u .entries)) ≡ length (putAll putEntry (t .entries)) + length (putAll putEntry (u .entries)) =
-    ap length (put-append putEntry (t .entries) (u .entries)) ∙ length-append (putAll putEntry (t .entries)) (putAll putEntry (u .entries)) in
-    let z : length (encode (joined t u)) ≡ 14 + length (t .name) + length (putAll putEntry (t .entries ++ u .entries)) = size-is t (t .entries ++ u .entries) in
-    omega arith
 
 -- a verdict by its test
 pub agreed-so : (v : Verdict) → agrees v ≡ true → v ≡ agreed

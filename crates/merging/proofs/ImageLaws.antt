@@ -1,5 +1,5 @@
 -- Laws of the whole merge, by what the code knows of two accepted images. Assumes nothing but that the images' bytes are below 256.
-use Prim.Native.Nat.{ℕ, suc, _+_, _*_, _≤_}
+use Prim.Native.Nat.{ℕ, suc, _+_, _-_, _*_, _≤_}
 use mathlib.Core.Path.{_≡_, refl, ap, sym, _∙_}
 use mathlib.Core.List.{List, [], _∷_, _++_, append-assoc}
 use mathlib.Core.Bool.{true}
@@ -16,7 +16,7 @@ use Rattle.table.specs.inner.Entry.{entryList}
 use Rattle.table.specs.Span.{Verdict, agreed, broken, consistent, ruled}
 use Rattle.table.specs.Start.{startOf}
 use Rattle.table.specs.Decode.{decode, nameOf, entriesOf}
-use Rattle.table.specs.Encode.{putAll, putEntry}
+use Rattle.table.specs.Encode.{putAll, putEntry, encode}
 use Rattle.table.proofs.SizeLaws.{entry-end, many-end}
 use Rattle.table.proofs.StartLaws.{start-is}
 use Rattle.table.proofs.ReadLaws.{accepted-table}
@@ -26,11 +26,13 @@ use Rattle.merging.specs.inner.Sorted.{self, ordered}
 use Rattle.merging.proofs.OrderLaws.{length-arranged, arranged-order}
 use Rattle.merging.specs.Order.{pitchRank}
 use Rattle.merging.specs.declared.extent.Extent.{Extent}
+use Rattle.merging.specs.Merge.{joined}
 use Rattle.merging.specs.inner.Extent.{AcceptedAt}
 use Rattle.merging.specs.inner.Keys.{reads, keysFrom, keysOf, bytesFor}
 use Rattle.merging.specs.inner.Image.{laid, headOf, stable, stableImage, stableOver}
 use Rattle.merging.proofs.AcceptedLaws.{encode-entries, head-length}
-use Rattle.merging.proofs.KeyLaws.{keys-merged}
+use Rattle.merging.proofs.KeyLaws.{keys-join, keys-merged}
+use Rattle.merging.proofs.MergeLaws.{stable-merged, merged-size, joined-size}
 
 -- what an accepted image holds
 pub record Holds (s : List ℕ) (x : Extent) : Type 0 where
@@ -82,6 +84,12 @@ module _ (s : List ℕ) (x : Extent) (w : Holds s x) where
   pub holds-list : entryList (x .count) s (x .at) ≡ entriesOf (decode s)
   holds-list = many-stand entry s (x .count) 0 (x .at) (x .end) (w .table .entries) (w .reading) ∙ sym holds-entries
 
+  -- where the entries end, by what they take
+  pub holds-end : x .end ≡ x .at + total entrySize (entryList (x .count) s (x .at))
+  holds-end =
+      many-end entry entrySize s (λ i at e b. entry-end i s at e b) (x .count) 0 (x .at) (x .end) (w .table .entries) (w .reading)
+      ∙ ap (λ (l : List PitchEntry). x .at + total entrySize l) (sym (holds-entries) ∙ sym holds-list)
+
 -- an entry takes 28 bytes at least
 many-bytes : (l : List PitchEntry) → 28 * length l ≤ length (putAll putEntry l)
 unfolding putAll putEntry
@@ -89,7 +97,7 @@ many-bytes [] = omega arith
 many-bytes (a ∷ l) = let g = many-bytes l in simp length-append (omega arith)
 
 -- ---- two images
-module _ (s v : List ℕ) (x y : Extent) (p : Holds s x) (q : Holds v y) where
+module _ (s v : List ℕ) (bs : Bytes s) (bv : Bytes v) (x y : Extent) (p : Holds s x) (q : Holds v y) (short : length (stableImage (decode s) (decode v)) ≤ 65536) where
   abbrev t : CoeffTable
   t = p .table
 
@@ -104,16 +112,27 @@ module _ (s v : List ℕ) (x y : Extent) (p : Holds s x) (q : Holds v y) where
 
   -- the bytes of the entries, in the order of the keys
   abbrev pub rest : List ℕ
-  rest = putAll (bytesFor s v) (keysOf s x v y)
+  rest = putAll (bytesFor s x v y) (keysOf s x v)
+
+  -- LAW: how long the result is, by where the images' entries end
+  pub result-size : length (stableImage (decode s) (decode v)) ≡ x .end + (y .end - y .at)
+  result-size =
+      let a : length (encode (joined t u)) ≡ x .end + (y .end - (14 + length (u .name))) = joined-size s v bs bv t u (x .end) (y .end) (p .read) (q .read) in
+      rw (p .read, q .read) (merged-size t u (stable t u) (stable-merged t u) ∙ a) ∙ ap (λ (n : ℕ). x .end + (y .end - n)) (sym (q .start))
+
+  second-end : y .end ≡ y .at + total entrySize (u .entries)
+  second-end = many-end entry entrySize v (λ i at e b. entry-end i v at e b) (y .count) 0 (y .at) (y .end) (u .entries) (q .reading)
+
+  pub second-fits : x .end + total entrySize (u .entries) ≤ 65536
+  second-fits =
+      let a : length (stableImage (decode s) (decode v)) ≡ x .end + (y .end - y .at) = result-size in
+      let b : y .end ≡ y .at + total entrySize (u .entries) = second-end in
+      omega arith
 
   rest-is : rest ≡ putAll putEntry (stable t u)
   rest-is =
-      let a : x .end ≤ length s = p .end in
-      let b : length s ≤ 65536 = p .short in
-      let c : y .end ≤ length v = q .end in
-      let d : length v ≤ 65536 = q .short in
-      rw (p .read, q .read)
-      (keys-merged s v (x .count) (y .count) (x .at) (y .at) (x .end) (y .end) (t .entries) (u .entries) (p .reading) (q .reading) (omega arith) (omega arith))
+      let a : x .at ≡ 14 + length (t .name) = p .start in
+      rw (p .read, q .read) (keys-merged s v bs bv x y (t .entries) (u .entries) (p .reading) (q .reading) (omega arith) second-fits)
 
   image-is : stableImage (decode s) (decode v) ≡ headOf (nameOf (decode s)) (x .count + y .count) ++ rest
   image-is = rw (rest-is) (rw (p .read, q .read, encode-entries t (stable t u), stable-length) refl)
@@ -126,8 +145,8 @@ module _ (s v : List ℕ) (x y : Extent) (p : Holds s x) (q : Holds v y) where
   image-size = ap length image-is ∙ length-append (headOf (nameOf (decode s)) (x .count + y .count)) rest ∙ ap (λ (d : ℕ). d + length rest) head-size
 
   -- LAW: an image has few entries
-  pub image-few : length (stableImage (decode s) (decode v)) ≤ 65536 → x .count + y .count ≤ 2340
-  image-few h =
+  pub image-few : x .count + y .count ≤ 2340
+  image-few =
       let a : length (stableImage (decode s) (decode v)) ≡ x .at + length rest = image-size in
       let b : length rest ≡ length (putAll putEntry (stable t u)) = ap length rest-is in
       let c : 28 * length (stable t u) ≤ length (putAll putEntry (stable t u)) = many-bytes (stable t u) in
@@ -146,10 +165,10 @@ module _ (s v : List ℕ) (x y : Extent) (p : Holds s x) (q : Holds v y) where
       g ∙ rw (h, a, b, image-size, image-is) refl
 
 -- ---- the keys, as the code gathers them
-length-keys : (side at : ℕ) (es : List PitchEntry) → length (keysFrom side at es) ≡ length es
+length-keys : (at : ℕ) (es : List PitchEntry) → length (keysFrom at es) ≡ length es
 unfolding keysFrom
-length-keys side at [] = refl
-length-keys side at (e ∷ es) = ap suc (length-keys side (at + entrySize e) es)
+length-keys at [] = refl
+length-keys at (e ∷ es) = ap suc (length-keys (at + entrySize e) es)
 
 length-read : (n : ℕ) (s : List ℕ) (at : ℕ) → reads (entries n s at) ≡ true → length (entryList n s at) ≡ n
 length-read n s at h = go (entries n s at) refl h
@@ -165,21 +184,17 @@ gathered x y before k₁ k₂ n m p q h g =
     let z : length (x ++ y) ≡ n + m = length-append x y ∙ omega arith in
     rw (g, a, ← append-assoc x y (drop (n + m) k₁)) (take-at (x ++ y) (drop (n + m) k₁) (n + m) z)
 
-keys-ordered : (s v : List ℕ) (n a m b : ℕ) → reads (entries n s a) ≡ true → reads (entries m v b) ≡ true → (before k₁ k₂ sorted : List ℕ)
-    → k₁ ≡ take 0 before ++ (keysFrom 0 a (entryList n s a) ++ drop (0 + n) before) → k₂ ≡ take n k₁ ++ (keysFrom 65536 b (entryList m v b) ++ drop (n + m) k₁)
-    → n + m ≤ length k₂ → sorted ≡ ordered (take (n + m) k₂)
-    → take (n + m) (sorted ++ drop (n + m) k₂) ≡ ordered (keysFrom 0 a (entryList n s a) ++ keysFrom 65536 b (entryList m v b))
-keys-ordered s v n a m b r o before k₁ k₂ sorted h g room e =
-    let p : length (keysFrom 0 a (entryList n s a)) ≡ n = length-keys 0 a (entryList n s a) ∙ length-read n s a r in
-    let q : length (keysFrom 65536 b (entryList m v b)) ≡ m = length-keys 65536 b (entryList m v b) ∙ length-read m v b o in
-    let w : take (n + m) k₂ ≡ keysFrom 0 a (entryList n s a) ++ keysFrom 65536 b (entryList m v b) = gathered (keysFrom 0 a (entryList n s a)) (keysFrom 65536 b (entryList m v b)) before k₁ k₂ n m p q h g in
-    let z : length sorted ≡ n + m = ap length e ∙ length-arranged (arranged-order self (take (n + m) k₂)) ∙ length-take-le (n + m) k₂ room in
-    take-at sorted (drop (n + m) k₂) (n + m) z ∙ e ∙ ap ordered w
-
 pub keys-are : (s v : List ℕ) (x y : Extent) → Holds s x → Holds v y → (before k₁ k₂ sorted : List ℕ)
-    → k₁ ≡ take 0 before ++ (keysFrom 0 (x .at) (entryList (x .count) s (x .at)) ++ drop (0 + x .count) before)
-    → k₂ ≡ take (x .count) k₁ ++ (keysFrom 65536 (y .at) (entryList (y .count) v (y .at)) ++ drop (x .count + y .count) k₁)
-    → x .count + y .count ≤ length k₂ → sorted ≡ ordered (take (x .count + y .count) k₂) → take (x .count + y .count) (sorted ++ drop (x .count + y .count) k₂) ≡ keysOf s x v y
-keys-are s v x y p q before k₁ k₂ sorted h g room e =
-    keys-ordered s v (x .count) (x .at) (y .count) (y .at) (holds-reads s x p) (holds-reads v y q) before k₁ k₂ sorted h g room e
-    ∙ rw (holds-list s x p, holds-list v y q) refl
+    → k₁ ≡ take 0 before ++ (keysFrom (x .at) (entryList (x .count) s (x .at)) ++ drop (0 + x .count) before)
+    → k₂ ≡ take (x .count) k₁ ++ (keysFrom (x .end) (entryList (y .count) v (y .at)) ++ drop (x .count + y .count) k₁)
+    → x .count + y .count ≤ length k₂ → sorted ≡ ordered (take (x .count + y .count) k₂) → take (x .count + y .count) (sorted ++ drop (x .count + y .count) k₂) ≡ keysOf s x v
+keys-are s v x y h k before k₁ k₂ sorted g i room e =
+    let es : List PitchEntry = entryList (x .count) s (x .at) in
+    let fs : List PitchEntry = entryList (y .count) v (y .at) in
+    let p : length (keysFrom (x .at) es) ≡ x .count = length-keys (x .at) es ∙ length-read (x .count) s (x .at) (holds-reads s x h) in
+    let q : length (keysFrom (x .end) fs) ≡ y .count = length-keys (x .end) fs ∙ length-read (y .count) v (y .at) (holds-reads v y k) in
+    let w : take (x .count + y .count) k₂ ≡ keysFrom (x .at) es ++ keysFrom (x .end) fs = gathered (keysFrom (x .at) es) (keysFrom (x .end) fs) before k₁ k₂ (x .count) (y .count) p q g i in
+    let z : length sorted ≡ x .count + y .count = ap length e ∙ length-arranged (arranged-order self (take (x .count + y .count) k₂)) ∙ length-take-le (x .count + y .count) k₂ room in
+    let o : x .end ≡ x .at + total entrySize es = holds-end s x h in
+    let j : keysFrom (x .at) es ++ keysFrom (x .end) fs ≡ keysFrom (x .at) (es ++ fs) = ap (λ (n : ℕ). keysFrom (x .at) es ++ keysFrom n fs) o ∙ sym (keys-join (x .at) es fs) in
+    take-at sorted (drop (x .count + y .count) k₂) (x .count + y .count) z ∙ e ∙ ap ordered (w ∙ j) ∙ rw (holds-list s x h, holds-list v y k) refl

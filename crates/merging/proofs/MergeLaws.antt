@@ -1,6 +1,6 @@
 -- What the contract of a merge allows: all of it has one size, one row of pitches and is accepted; the stable order is one of it.
 -- Assumes nothing but that the images' bytes are below 256.
-use Prim.Native.Nat.{ℕ, _+_, _≤_}
+use Prim.Native.Nat.{ℕ, _+_, _-_, _≤_}
 use mathlib.Core.Path.{_≡_, refl, ap, sym, _∙_}
 use mathlib.Core.List.{List, [], _++_, map, append-nil}
 use native.Mathlib.Omega.{arith}
@@ -10,10 +10,11 @@ use Rattle.table.specs.Table.{PitchEntry, CoeffTable}
 use Rattle.table.specs.Span.{agreed, consistent}
 use Rattle.table.specs.Decode.{decode}
 use Rattle.table.specs.Encode.{putAll, putEntry, encode}
-use Rattle.table.proofs.RoundTrip.{Bytes}
+use Rattle.table.proofs.RoundTrip.{Bytes, decode-encode}
 use Rattle.merging.specs.Order.{Put, here, later, Arranged, nothing, more, Ascending, pitchRank}
 use Rattle.merging.specs.inner.Sorted.{inOrder, ofKey}
 use Rattle.merging.proofs.OrderLaws.{every-join, every-arranged, arranged-self, arranged-order, ascending-order, length-arranged}
+use Rattle.merging.proofs.LaidLaws.{put-append}
 use Rattle.merging.proofs.SortLaws.{keys-same}
 use Rattle.merging.proofs.EqualKeys.{arranged-of, distinct-one}
 use Rattle.merging.specs.inner.Image.{headOf}
@@ -39,6 +40,21 @@ module _ {A : Type 0} (f : A → List ℕ) where
 
 pub size-is : (t : CoeffTable) (es : List PitchEntry) → length (encode (withEntries t es)) ≡ 14 + length (t .name) + length (putAll putEntry es)
 size-is t es = ap length (encode-entries t es) ∙ length-append (headOf (t .name) (length es)) (putAll putEntry es) ∙ ap (λ (n : ℕ). n + length (putAll putEntry es)) (head-length t es)
+
+pub entries-size : (s : List ℕ) → Bytes s → (t : CoeffTable) (e : ℕ) → decode s ≡ ok t e → 14 + length (t .name) + length (putAll putEntry (t .entries)) ≡ e
+unfolding encode
+entries-size s byte t e h = sym (size-is t (t .entries)) ∙ decode-encode s byte t e h .1
+
+-- LAW: the result's length, from where the two images end and the second's name
+pub joined-size : (s v : List ℕ) → Bytes s → Bytes v → (t u : CoeffTable) (e f : ℕ) → decode s ≡ ok t e → decode v ≡ ok u f
+    → length (encode (joined t u)) ≡ e + (f - (14 + length (u .name)))
+joined-size s v bs bv t u e f hs hv =
+    let k : 14 + length (t .name) + length (putAll putEntry (t .entries)) ≡ e = entries-size s bs t e hs in
+    let l : 14 + length (u .name) + length (putAll putEntry (u .entries)) ≡ f = entries-size v bv u f hv in
+    let r : length (putAll putEntry (t .entries ++ u .entries)) ≡ length (putAll putEntry (t .entries)) + length (putAll putEntry (u .entries)) =
+    ap length (put-append putEntry (t .entries) (u .entries)) ∙ length-append (putAll putEntry (t .entries)) (putAll putEntry (u .entries)) in
+    let z : length (encode (joined t u)) ≡ 14 + length (t .name) + length (putAll putEntry (t .entries ++ u .entries)) = size-is t (t .entries ++ u .entries) in
+    omega arith
 
 module _ (t u : CoeffTable) where
   -- LAW: the stable order is allowed

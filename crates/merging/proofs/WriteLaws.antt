@@ -1,24 +1,38 @@
 -- Laws of writing the entries that keys are of. Assumes nothing but that an image's bytes are below 256.
-use Prim.Native.Nat.{ℕ, _+_, _-_, _%_, _≤_, _<_}
+use Prim.Native.Nat.{ℕ, _+_, _-_, _≤_, _<_}
 use mathlib.Core.Path.{_≡_, refl, ap, sym, _∙_}
 use mathlib.Core.List.{List, []}
 use native.Mathlib.Omega.{arith}
 use lib.ListN.{length, getD, take, drop, length-append, length-drop, take-append-drop}
 use lib.Seq.{length-take-le, take-all}
-use borrow.Author.Tests.{lt-ltb, le-ltb}
-use Rattle.wire.specs.Parse.{Refusal, ok, refused}
+use borrow.Author.Tests.{lt-ltb, le-ltb, le-leb, lt-leb}
+use Rattle.wire.specs.Parse.{ok}
 use Rattle.wire.specs.Cursor.{u32}
 use Rattle.wire.proofs.Found.{u32-is}
 use Rattle.wire.proofs.Many.{went}
 use Rattle.table.specs.Table.{PitchEntry}
 use Rattle.table.specs.Image.{entry}
-use Rattle.table.specs.Encode.{putAll}
+use Rattle.table.specs.Size.{entrySize}
+use Rattle.table.specs.Encode.{putAll, putEntry}
+use Rattle.table.proofs.SizeLaws.{entry-end}
 use Rattle.table.proofs.Spelled.{spelled-entry}
 use Rattle.table.proofs.RoundTrip.{Bytes}
-use Rattle.merging.specs.inner.Keys.{bytesOf, bytesFor}
+use Rattle.merging.specs.declared.extent.Extent.{Extent}
+use Rattle.merging.specs.inner.Keys.{startIn, sizeIn, pieceAt, bytesFor}
 use Rattle.merging.specs.inner.Image.{laid}
 use Rattle.merging.proofs.LaidLaws.{laid-none, laid-length, laid-laid, put-append, put-more}
 
+-- a piece that is there, and one that is not
+pub piece-there : (s : List ℕ) (at n : ℕ) → at + n ≤ length s → pieceAt s at n ≡ take n (drop at s)
+piece-there s at n h = rw (le-leb (at + n) (length s) h) refl
+
+pub piece-size : (s : List ℕ) (at n : ℕ) → at + n ≤ length s → length (pieceAt s at n) ≡ n
+piece-size s at n h = ap length (piece-there s at n h) ∙ length-take-le n (drop at s) (simp length-drop (omega arith))
+
+pub piece-lost : (s : List ℕ) (at n : ℕ) → length s < at + n → pieceAt s at n ≡ []
+piece-lost s at n h = rw (lt-leb (at + n) (length s) h) refl
+
+-- an entry's bytes are the piece where it stands
 entry-there : (i : ℕ) (s : List ℕ) (at e : ℕ) (a : PitchEntry) → entry i s at ≡ ok a e → at ≤ length s
 unfolding entry
 entry-there i s at e a h =
@@ -27,32 +41,23 @@ entry-there i s at e a h =
     let there : at + 4 ≤ length s = v .there in
     omega arith
 
--- an entry's bytes are those of the image from its start to its end
-pub record Found (s : List ℕ) (start end : ℕ) : Type 0 where
-  pub order : start ≤ end
-  pub inside : end ≤ length s
-  pub bytes : bytesOf (entry 0 s start) ≡ take (end - start) (drop start s)
-  pub size : length (bytesOf (entry 0 s start)) ≡ end - start
-
-pub found : (s : List ℕ) → Bytes s → (start end : ℕ) (a : PitchEntry) → entry 0 s start ≡ ok a end → Found s start end
-found s byte start end a h =
-    let w = spelled-entry s byte 0 start end a h in
-    let r : end ≤ length s = w .inside (entry-there 0 s start end a h) in
-    let o : start ≤ end = w .order in
-    let b : bytesOf (entry 0 s start) ≡ take (end - start) (drop start s) = ap bytesOf h ∙ w .bytes in
-    record { order = o; inside = r; bytes = b; size = ap length b ∙ length-take-le (end - start) (drop start s) (simp length-drop (omega arith)) }
-
-pub lost : (s : List ℕ) (start : ℕ) (r : Refusal) → entry 0 s start ≡ refused r → bytesOf (entry 0 s start) ≡ []
-lost s start r h = ap bytesOf h
+pub entry-piece : (s : List ℕ) → Bytes s → (i at e : ℕ) (a : PitchEntry) → entry i s at ≡ ok a e → pieceAt s at (entrySize a) ≡ putEntry a
+entry-piece s byte i at e a h =
+    let w = spelled-entry s byte i at e a h in
+    let r : e ≤ length s = w .inside (entry-there i s at e a h) in
+    let z : e ≡ at + entrySize a = entry-end i s at e a h in
+    let n : e - at ≡ entrySize a = omega arith in
+    piece-there s at (entrySize a) (omega arith) ∙ ap (λ (d : ℕ). take d (drop at s)) (sym n) ∙ sym (w .bytes)
 
 -- which image a key is of
-pub key-first : (s u : List ℕ) (k r : ℕ) → r ≡ k % 4294967296 → r < 65536 → bytesFor s u k ≡ bytesOf (entry 0 s r)
+pub key-first : (s : List ℕ) (x : Extent) (v : List ℕ) (y : Extent) (k a n : ℕ) → a ≡ startIn k → n ≡ sizeIn k → a < x .end → bytesFor s x v y k ≡ pieceAt s a n
 unfolding bytesFor
-key-first s u k r e h = rw (← e, lt-ltb r 65536 h) refl
+key-first s x v y k a n e f h = rw (← e, ← f, lt-ltb a (x .end) h) refl
 
-pub key-second : (s u : List ℕ) (k r : ℕ) → r ≡ k % 4294967296 → 65536 ≤ r → bytesFor s u k ≡ bytesOf (entry 0 u (r - 65536))
+pub key-second : (s : List ℕ) (x : Extent) (v : List ℕ) (y : Extent) (k a n : ℕ) → a ≡ startIn k → n ≡ sizeIn k → x .end ≤ a
+    → bytesFor s x v y k ≡ pieceAt v (y .at + (a - x .end)) n
 unfolding bytesFor
-key-second s u k r e h = rw (← e, le-ltb r 65536 h) refl
+key-second s x v y k a n e f h = rw (← e, ← f, le-ltb a (x .end) h) refl
 
 -- ---- the loop over keys
 module _ (f : ℕ → List ℕ) (keys target₀ : List ℕ) (at : ℕ) where

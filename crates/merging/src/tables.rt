@@ -47,7 +47,7 @@ fn put_with(
     ordered_keys(first, x, second, y, keys, work);
     let k = x.count + y.count;
     put_head(first, x, k as u32, target);
-    put_all(first, second, &keys[..k], target, x.at);
+    put_all(first, x, second, y, &keys[..k], target);
 }
 
 // The same for few entries, as two voices' tables have: slices of this length are cleared in no time.

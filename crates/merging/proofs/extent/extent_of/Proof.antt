@@ -24,10 +24,23 @@ returns-2 c =
 pub extent-of-spec : {M : Type 1} → statement M
 extent-of-spec =
     tie.close (tie.spec
-    (λ c κs. search needs)
-    (λ c. search needs)
-    (λ c. search needs)
-    (λ c. search needs)
+    (λ
+    c
+    κs.
+    search
+    needs)
+    (λ
+    c.
+    search
+    needs)
+    (λ
+    c.
+    search
+    needs)
+    (λ
+    c.
+    search
+    needs)
     enum-told
     returns
     returns-2)

@@ -72,13 +72,34 @@ joined-agree-spec =
     (tie.spec
     returns
     returns-2
-    (λ c κs. search needs)
+    (λ
+    c
+    κs.
+    search
+    needs)
     enum-told
-    (λ c. search needs)
-    (λ c κs. search needs)
-    (λ c. search needs)
-    (λ c. search needs)
-    (λ c κs. search needs)
+    (λ
+    c.
+    search
+    needs)
+    (λ
+    c
+    κs.
+    search
+    needs)
+    (λ
+    c.
+    search
+    needs)
+    (λ
+    c.
+    search
+    needs)
+    (λ
+    c
+    κs.
+    search
+    needs)
     returns-3
     returns-4
     returns-5)

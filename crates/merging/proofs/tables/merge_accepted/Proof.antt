@@ -83,7 +83,7 @@ add-t8 c =
     let p = holds (b15 .args .first .now) (λ i. omega (arith, b14 .shared-slice-known .given i)) (b15 .args .x) (b15 .pre .0) in
     let q = holds (b15 .args .second .now) (λ i. omega (arith, b13 .shared-slice-known2 .given i)) (b15 .args .y) (b15 .pre .1) in
     let w = result-fits (b15 .args .first .now) (b15 .args .second .now) (λ i. omega (arith, b14 .shared-slice-known .given i)) (λ i. omega (arith, b13 .shared-slice-known2 .given i)) (b15 .args .x) (b15 .args .y) p q (length (b15 .args .target .now)) (b7 .if2 .left) (b6 .if3 .left) in
-    let f : b15 .args .x .count + b15 .args .y .count ≤ 2340 = image-few (b15 .args .first .now) (b15 .args .second .now) (b15 .args .x) (b15 .args .y) p q (w .0) in
+    let f : b15 .args .x .count + b15 .args .y .count ≤ 2340 = image-few (b15 .args .first .now) (b15 .args .second .now) (λ i. omega (arith, b14 .shared-slice-known .given i)) (λ i. omega (arith, b13 .shared-slice-known2 .given i)) (b15 .args .x) (b15 .args .y) p q (w .0) in
     omega arith
 
 returns-4 : tie.Need-returns-4
