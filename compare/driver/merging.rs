@@ -328,13 +328,24 @@ fn lengths(r: &mut Rand, f: &mut impl FnMut([Vec<u8>; 2], i64)) {
     }
 }
 
-// Every two counts of entries up to 20; and 2,340 entries as the race has them, and of one pitch.
+// Every two counts of entries up to 20; and 2,340 entries in each order that the race has.
 fn counts(r: &mut Rand, f: &mut impl FnMut([Vec<u8>; 2], i64)) {
     for (n, m) in (0..=20).flat_map(|n| (0..=20).map(move |m| (n, m))) {
         f([pile(r, b"one", n).bytes(), pile(r, b"other", m).bytes()], 0);
     }
-    for tables in ways().into_iter().map(|w| w.1).chain([full(|_| 7)]) {
+    for (_, tables) in ways() {
         f(tables.map(|t| t.bytes()), 0);
+    }
+}
+
+// Every order of up to six pitches, the list cut between the two images at every place.
+fn orders(f: &mut impl FnMut([Vec<u8>; 2], i64)) {
+    let mut all: Vec<Vec<u32>> = vec![vec![]];
+    for n in 0..=6 {
+        for l in &all {
+            (0..=n).for_each(|cut| f([small(b"one", l[..cut].to_vec()).bytes(), small(b"two", l[cut..].to_vec()).bytes()], 0));
+        }
+        all = all.iter().flat_map(|l| (0..=n).map(move |at| [&l[..at], &[n as u32], &l[at..]].concat())).collect();
     }
 }
 
@@ -439,6 +450,7 @@ pub fn by_hand(r: &mut Rand, f: &mut impl FnMut([Vec<u8>; 2], i64)) {
     agreeing(f);
     lengths(r, f);
     counts(r, f);
+    orders(f);
     at_once(f);
     pitches(r, f);
 }
@@ -458,19 +470,31 @@ fn original(images: &[Vec<u8>; 2]) -> Vec<u8> {
     in_order(t).to_bytes()
 }
 
-// 1,170 smallest entries in each image, by how their pitches stand: entry i of 2,340 has the place that is answered.
-fn full(place: impl Fn(u32) -> u32) -> [Table; 2] {
+// 2,340 smallest entries, n of them in the first image, by how their pitches stand: entry i has the place that is answered.
+fn full(n: u32, place: impl Fn(u32) -> u32) -> [Table; 2] {
     let pitch = |i: u32| (20.0 + place(i) as f32).to_bits();
-    [small(b"ab", (0..1170).map(pitch)), small(b"ab", (1170..2340).map(pitch))]
+    [small(b"ab", (0..n).map(&pitch)), small(b"ab", (n..2340).map(&pitch))]
 }
 
-// In any order, ascending and descending right through, and each image ascending, the two by turns.
-fn ways() -> [(&'static str, [Table; 2]); 4] {
-    [
-        ("1,170 + 1,170 smallest entries, any order", full(|i| i.wrapping_mul(0x9E3779B9) % 100_000)),
-        ("1,170 + 1,170 smallest entries, ascending", full(|i| i)),
-        ("1,170 + 1,170 smallest entries, descending", full(|i| 2340 - i)),
-        ("1,170 + 1,170 smallest entries, by turns", full(|i| i % 1170 * 2 + i / 1170)),
+// Orders that a sort may be quick or slow at: none, one right through, one in each image, and nearly one.
+fn ways() -> Vec<(&'static str, [Table; 2])> {
+    let both = |place: fn(u32) -> u32| full(1170, place);
+    vec![
+        ("1,170 + 1,170 smallest entries, any order", both(|i| i.wrapping_mul(0x9E3779B9) % 100_000)),
+        ("1,170 + 1,170 smallest entries, ascending", both(|i| i)),
+        ("1,170 + 1,170 smallest entries, descending", both(|i| 2340 - i)),
+        ("1,170 + 1,170 smallest entries, by turns", both(|i| i % 1170 * 2 + i / 1170)),
+        ("1,170 + 1,170 smallest entries, by turns downwards", both(|i| 2339 - (i % 1170 * 2 + i / 1170))),
+        ("1,170 + 1,170 smallest entries, up and then down", both(|i| if i < 1170 { 2 * i } else { 4679 - 2 * i })),
+        ("1,170 + 1,170 smallest entries, second before first", both(|i| (i + 1170) % 2340)),
+        ("1,170 + 1,170 smallest entries, runs of 45", both(|i| i % 45 * 52 + i / 45)),
+        ("1,170 + 1,170 smallest entries, one of 20 out of place", both(|i| if i % 20 == 0 { (i + 777) % 2340 } else { i })),
+        ("1,170 + 1,170 smallest entries, 10 pitches in any order", both(|i| i.wrapping_mul(0x9E3779B9) % 10)),
+        ("1,170 + 1,170 smallest entries, one pitch", both(|_| 7)),
+        ("2,300 + 40 smallest entries, each ascending", full(2300, |i| if i < 2300 { i } else { (i - 2300) * 57 })),
+        ("40 + 2,300 smallest entries, each ascending", full(40, |i| if i < 40 { i * 57 } else { i - 40 })),
+        ("2,340 smallest entries + none, ascending", full(2340, |i| i)),
+        ("none + 2,340 smallest entries, descending", full(0, |i| 2340 - i)),
     ]
 }
 
@@ -484,9 +508,14 @@ fn planned(m: usize, k: u32, j: u32) -> [Table; 2] {
 // The entries of 4 partials have one channel, those of 32 have four; all have a span.
 pub fn race(race: &Race) {
     let few = [
+        ("no entries", [table(0, 0, 0, 0), table(0, 0, 0, 0)]),
+        ("1 + 1 smallest entries", [small(b"ab", [2]), small(b"ab", [1])]),
+        ("3 + 2 smallest entries", [small(b"ab", [1, 3, 5]), small(b"ab", [2, 4])]),
         ("3 + 2 entries of 4 partials, 2 bands", planned(4, 1, 2)),
         ("3 + 2 entries of 32 partials, 16 bands", planned(32, 4, 16)),
+        ("16 + 16 entries of 4 partials, 2 bands", [table(16, 4, 1, 2), table(16, 4, 1, 2)]),
         ("16 + 16 entries of 32 partials, 16 bands", [table(16, 32, 4, 16), table(16, 32, 4, 16)]),
+        ("200 + 20 entries of 8 partials, 2 bands", [table(200, 8, 1, 2), table(20, 8, 1, 2)]),
     ];
     for (what, tables) in ways().into_iter().chain(few) {
         let images = tables.map(|t| t.bytes());
