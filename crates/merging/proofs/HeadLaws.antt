@@ -7,9 +7,9 @@ use native.Mathlib.Nat.{zero-add}
 use native.Mathlib.Numerals.{add-one, add-two, add-three}
 use lib.ListN.{length, getD, take, drop, set}
 use lib.Seq.{length-take-le, take-at, drop-at, drop-cons, drop-drop, take-add, sets-eq}
-use Rattle.wire.specs.Parse.{Refusal, Parsed, ok, refused}
-use Rattle.wire.specs.Cursor.{part, le32, u32, string}
-use Rattle.wire.proofs.Found.{u32-got, u32-is, string-is}
+use Rattle.wire.specs.Parse.{Parsed, ok}
+use Rattle.wire.specs.Cursor.{part, le32, string}
+use Rattle.wire.proofs.Found.{u32-is, string-is}
 use Rattle.wire.proofs.Many.{went}
 use Rattle.table.specs.Table.{CoeffTable}
 use Rattle.table.specs.Image.{magic}
@@ -99,16 +99,10 @@ name-length s t e h =
     let same : length (d .name) ≡ length (t .name) = ap (λ (x : CoeffTable). length (x .name)) (sym (p .whole)) in
     (omega arith, omega arith)
 
-pub start-read : (s : List ℕ) (n e v next : ℕ) → counts (decode s) ≡ ok n e → u32 s 6 ≡ ok v next → 14 + v ≡ 14 + length (nameOf (decode s))
-start-read s n e v next h g =
-    accepted-table s n e h λ t k l.
-    let i = name-length s t e k in
-    ap (λ (x : ℕ). 14 + x) (u32-is s 6 v next g .value ∙ i .1) ∙ sym (ap (λ (q : Parsed CoeffTable). 14 + length (nameOf q)) k)
+pub start-there : (s : List ℕ) (n e : ℕ) → counts (decode s) ≡ ok n e → 6 + 4 ≤ length s
+start-there s n e h = accepted-table s n e h λ t k l. name-length s t e k .0
 
-pub start-there : (s : List ℕ) (n e : ℕ) (r : Refusal) → counts (decode s) ≡ ok n e → u32 s 6 ≡ refused r → ⊥
-start-there s n e r h g =
+pub start-read : (s : List ℕ) (n e : ℕ) → counts (decode s) ≡ ok n e → 14 + le32 s 6 ≡ 14 + length (nameOf (decode s))
+start-read s n e h =
     accepted-table s n e h λ t k l.
-    let i = name-length s t e k in
-    let j : u32 s 6 ≡ ok (le32 s 6) (6 + 4) = u32-got s 6 (i .0) in
-    let z : _≡_ {A = ℕ} 0 1 = cc in
-    omega arith
+    ap (λ (x : ℕ). 14 + x) (name-length s t e k .1) ∙ sym (ap (λ (q : Parsed CoeffTable). 14 + length (nameOf q)) k)

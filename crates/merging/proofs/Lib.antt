@@ -8,6 +8,7 @@ pub mod SpanOrder
 pub mod AcceptedLaws
 pub mod MergeLaws
 pub mod LaidLaws
+pub mod SkipLaws
 pub mod GatherLaws
 pub mod WriteLaws
 pub mod KeyLaws

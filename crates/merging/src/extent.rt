@@ -6,8 +6,7 @@ ghost use Rattle.wire.specs.Parse.{ok};
 ghost use Rattle.table.specs.Answer.{counts};
 ghost use Rattle.table.specs.Decode.{decode, nameOf};
 ghost use Rattle.merging.specs.inner.Extent.{AcceptedAt};
-use wire::cursor::Cursor;
-use wire::cursor::U32Read;
+use crate::skip::number_at;
 
 // Where the first entry starts, how many there are, and where the last one ends.
 pub struct Extent {
@@ -22,13 +21,10 @@ pub fn extent_of(image: &[u8], count: usize, end: usize) -> Extent
     requires { ⌜ counts (decode (now image)) ≡ ok count end ⌝ }
     ensures { λ r. ⌜ AcceptedAt (now (image .entry)) r ⌝ }
 {
-    let c = Cursor { at: 6 };
-    match c.u32(image) {
-        U32Read::Value(n, _) => Extent {
-            at: 14 + (n as usize),
-            count,
-            end,
-        },
-        U32Read::UnexpectedEof => Extent { at: 14, count, end },
+    let n = number_at(image, 6);
+    Extent {
+        at: 14 + (n as usize),
+        count,
+        end,
     }
 }

@@ -2,6 +2,7 @@
 mod extent;
 mod head;
 mod keys;
+mod skip;
 mod sort;
 mod spans;
 mod tables;
