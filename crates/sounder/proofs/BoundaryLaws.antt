@@ -1,6 +1,7 @@
 -- Laws of the boundary's definitions. Assumes nothing.
 use Prim.Native.Nat.{ℕ, zero, suc, _+_, _≤_}
 use mathlib.Core.Path.{_≡_, refl, ap, sym, _∙_}
+use mathlib.Core.Logic.{_⊎_, inl, inr}
 use mathlib.Core.List.{List}
 use native.Mathlib.Omega.{arith}
 use mathlib.Core.Bool.{cond}
@@ -69,18 +70,21 @@ name-held s = go (decode s) refl
     go (ok t e) h = name-part s t e h
     go (refused r) h = refl
 
--- no refusal has the numbers of an accepted call
-numbered : (e : CoeffTableCodecError) → refusalOf e .number ≡ 0 → ⊥
-numbered CoeffTableCodecError.TooLong h = absurd (omega (arith, h))
-numbered CoeffTableCodecError.UnexpectedEof h = absurd (omega (arith, h))
-numbered CoeffTableCodecError.BadMagic h = absurd (omega (arith, h))
-numbered (CoeffTableCodecError.UnsupportedVersion v) h = absurd (omega (arith, h))
-numbered CoeffTableCodecError.BadUtf8 h = absurd (omega (arith, h))
-numbered (CoeffTableCodecError.MalformedEntry i) h = absurd (omega (arith, h))
-numbered (CoeffTableCodecError.InconsistentNoiseBandSpan f i) h = absurd (omega (arith, h))
+-- an image's refusal has a number from 1 to 7, so none has the numbers of an accepted call
+error-number : (e : CoeffTableCodecError) → (1 ≤ refusalOf e .number) × (refusalOf e .number ≤ 7)
+error-number CoeffTableCodecError.TooLong = (omega arith, omega arith)
+error-number CoeffTableCodecError.UnexpectedEof = (omega arith, omega arith)
+error-number CoeffTableCodecError.BadMagic = (omega arith, omega arith)
+error-number (CoeffTableCodecError.UnsupportedVersion v) = (omega arith, omega arith)
+error-number CoeffTableCodecError.BadUtf8 = (omega arith, omega arith)
+error-number (CoeffTableCodecError.MalformedEntry i) = (omega arith, omega arith)
+error-number (CoeffTableCodecError.InconsistentNoiseBandSpan f i) = (omega arith, omega arith)
 
 pub refused-apart : (e : CoeffTableCodecError) (a b : ℕ) → refusalAnswer (refusalOf e) ≡ done a b → ⊥
-refused-apart e a b h = numbered e (ap (λ (x : Answer). x .number) h)
+refused-apart e a b h =
+    let n = error-number e in
+    let z : refusalOf e .number ≡ 0 = ap (λ (x : Answer). x .number) h in
+    omega arith
 
 -- a call leaves of a voice all but its running state, refused or not: so who stores the state that it comes to has the voice that it comes to
 moved-in : (q n : ℕ) (v : Voice) (s x : State) → n ≡ q → x ≡ accepted-by q (withState v s) v .state
@@ -125,3 +129,14 @@ outcome-back Merging.TargetTooShort = refl
 -- LAW: no two share number, values and image
 pub merge-answers-apart : (a b : Merging) → mergeAnswer (mergingOutcome a) ≡ mergeAnswer (mergingOutcome b) → a ≡ b
 merge-answers-apart a b e = merging-apart a b (sym (outcome-back a) ∙ ap outcomeOf e ∙ outcome-back b)
+
+-- LAW: which image an answer speaks of, in the header's numbers: of 1 to 7 it is 1 or 2, and 0 of 0 and of 21 to 23
+pub image-said : (m : Merging) → let a = mergeAnswer (mergingOutcome m) in
+    ((a .image ≡ 0) × ((a .answer .number ≡ 0) ⊎ ((21 ≤ a .answer .number) × (a .answer .number ≤ 23))))
+    ⊎ ((1 ≤ a .image) × (a .image ≤ 2) × (1 ≤ a .answer .number) × (a .answer .number ≤ 7))
+image-said (Merging.Written n bytes) = inl (refl, inl refl)
+image-said (Merging.FirstRefused e) = inr (omega arith, omega arith, error-number e .0, error-number e .1)
+image-said (Merging.SecondRefused e) = inr (omega arith, omega arith, error-number e .0, error-number e .1)
+image-said Merging.InconsistentSpans = inl (refl, inr (omega arith, omega arith))
+image-said Merging.TooLong = inl (refl, inr (omega arith, omega arith))
+image-said Merging.TargetTooShort = inl (refl, inr (omega arith, omega arith))
