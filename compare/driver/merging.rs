@@ -328,24 +328,23 @@ fn lengths(r: &mut Rand, f: &mut impl FnMut([Vec<u8>; 2], i64)) {
     }
 }
 
-// Every two counts of entries up to 20; and 2,340 entries in each order that the race has.
+// Every two counts of entries up to 20; and all that the race has.
 fn counts(r: &mut Rand, f: &mut impl FnMut([Vec<u8>; 2], i64)) {
     for (n, m) in (0..=20).flat_map(|n| (0..=20).map(move |m| (n, m))) {
         f([pile(r, b"one", n).bytes(), pile(r, b"other", m).bytes()], 0);
     }
-    for (_, tables) in ways() {
+    for (_, tables) in ways().into_iter().chain(few()) {
         f(tables.map(|t| t.bytes()), 0);
     }
 }
 
-// Every order of up to six pitches, the list cut between the two images at every place.
-fn orders(f: &mut impl FnMut([Vec<u8>; 2], i64)) {
-    let mut all: Vec<Vec<u32>> = vec![vec![]];
-    for n in 0..=6 {
-        for l in &all {
-            (0..=n).for_each(|cut| f([small(b"one", l[..cut].to_vec()).bytes(), small(b"two", l[cut..].to_vec()).bytes()], 0));
-        }
-        all = all.iter().flat_map(|l| (0..=n).map(move |at| [&l[..at], &[n as u32], &l[at..]].concat())).collect();
+// Every order of up to six different pitches, the list cut between the two images at every place.
+fn orders(l: &[u32], f: &mut impl FnMut([Vec<u8>; 2], i64)) {
+    for cut in 0..=l.len() {
+        f([small(b"one", l[..cut].to_vec()).bytes(), small(b"two", l[cut..].to_vec()).bytes()], 0);
+    }
+    if l.len() < 6 {
+        (0..=l.len()).for_each(|at| orders(&[&l[..at], &[l.len() as u32], &l[at..]].concat(), f));
     }
 }
 
@@ -450,7 +449,7 @@ pub fn by_hand(r: &mut Rand, f: &mut impl FnMut([Vec<u8>; 2], i64)) {
     agreeing(f);
     lengths(r, f);
     counts(r, f);
-    orders(f);
+    orders(&[], f);
     at_once(f);
     pitches(r, f);
 }
@@ -486,6 +485,9 @@ fn ways() -> Vec<(&'static str, [Table; 2])> {
         ("1,170 + 1,170 smallest entries, by turns", both(|i| i % 1170 * 2 + i / 1170)),
         ("1,170 + 1,170 smallest entries, by turns downwards", both(|i| 2339 - (i % 1170 * 2 + i / 1170))),
         ("1,170 + 1,170 smallest entries, up and then down", both(|i| if i < 1170 { 2 * i } else { 4679 - 2 * i })),
+        ("1,170 + 1,170 smallest entries, down and then up", both(|i| if i < 1170 { 2339 - 2 * i } else { 2 * i - 2340 })),
+        ("1,170 + 1,170 smallest entries, neighbours swapped", both(|i| i ^ 1)),
+        ("1,170 + 1,170 smallest entries, each pitch twice, descending", both(|i| 1170 - i / 2)),
         ("1,170 + 1,170 smallest entries, second before first", both(|i| (i + 1170) % 2340)),
         ("1,170 + 1,170 smallest entries, runs of 45", both(|i| i % 45 * 52 + i / 45)),
         ("1,170 + 1,170 smallest entries, one of 20 out of place", both(|i| if i % 20 == 0 { (i + 777) % 2340 } else { i })),
@@ -505,9 +507,9 @@ fn planned(m: usize, k: u32, j: u32) -> [Table; 2] {
     [table(3, m, k, j), extra]
 }
 
-// The entries of 4 partials have one channel, those of 32 have four; all have a span.
-pub fn race(race: &Race) {
-    let few = [
+// Few entries, as a planner adds them, and large ones. Those of 32 partials have four channels, the others with partials one.
+fn few() -> Vec<(&'static str, [Table; 2])> {
+    vec![
         ("no entries", [table(0, 0, 0, 0), table(0, 0, 0, 0)]),
         ("1 + 1 smallest entries", [small(b"ab", [2]), small(b"ab", [1])]),
         ("3 + 2 smallest entries", [small(b"ab", [1, 3, 5]), small(b"ab", [2, 4])]),
@@ -516,17 +518,15 @@ pub fn race(race: &Race) {
         ("16 + 16 entries of 4 partials, 2 bands", [table(16, 4, 1, 2), table(16, 4, 1, 2)]),
         ("16 + 16 entries of 32 partials, 16 bands", [table(16, 32, 4, 16), table(16, 32, 4, 16)]),
         ("200 + 20 entries of 8 partials, 2 bands", [table(200, 8, 1, 2), table(20, 8, 1, 2)]),
-    ];
-    for (what, tables) in ways().into_iter().chain(few) {
+    ]
+}
+
+pub fn race(race: &Race) {
+    for (what, tables) in ways().into_iter().chain(few()) {
         let images = tables.map(|t| t.bytes());
         let mut target = vec![0; MOST];
-        let answered = ffi::merge(&images[0], &images[1], &mut target);
-        if answered.answer.number != 0 {
-            println!("merging {what}: refused {answered:?}");
-            continue;
-        }
         race.line(
-            &format!("merging {what} ({} bytes)", answered.answer.second),
+            &format!("merging {what} ({} bytes)", original(&images).len()),
             1.0,
             || {
                 black_box(ffi::merge(black_box(&images[0]), black_box(&images[1]), &mut target));

@@ -102,7 +102,5 @@ name-length s t e h =
 pub start-there : (s : List ℕ) (n e : ℕ) → counts (decode s) ≡ ok n e → 6 + 4 ≤ length s
 start-there s n e h = accepted-table s n e h λ t k l. name-length s t e k .0
 
-pub start-read : (s : List ℕ) (n e : ℕ) → counts (decode s) ≡ ok n e → 14 + le32 s 6 ≡ 14 + length (nameOf (decode s))
-start-read s n e h =
-    accepted-table s n e h λ t k l.
-    ap (λ (x : ℕ). 14 + x) (name-length s t e k .1) ∙ sym (ap (λ (q : Parsed CoeffTable). 14 + length (nameOf q)) k)
+pub start-read : (s : List ℕ) (n e : ℕ) → counts (decode s) ≡ ok n e → le32 s 6 ≡ length (nameOf (decode s))
+start-read s n e h = accepted-table s n e h λ t k l. name-length s t e k .1 ∙ sym (ap (λ (q : Parsed CoeffTable). length (nameOf q)) k)

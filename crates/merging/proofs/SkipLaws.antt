@@ -6,9 +6,9 @@ use mathlib.Core.Bool.{true, false}
 use native.Mathlib.Omega.{arith}
 use lib.ListN.{length}
 use lib.Dec.{eqb}
-use Rattle.wire.specs.Parse.{refusal, Parser, Parsed, ok, refused, asked, then, many}
+use Rattle.wire.specs.Parse.{Refusal, refusal, Parser, Parsed, ok, refused, asked, then, many}
 use Rattle.wire.specs.Cursor.{le32, u32, string, nextPosition}
-use Rattle.wire.proofs.Found.{u32-is, string-is}
+use Rattle.wire.proofs.Found.{u32-got, u32-is, string-is}
 use Rattle.wire.proofs.Many.{whole, went, asked-ok, many-go, many-no, many-end, many-length}
 use Rattle.table.specs.Table.{Pair, PitchEntry}
 use Rattle.table.specs.Image.{text, counted, pair, pairs, entry}
@@ -18,9 +18,39 @@ use Rattle.table.proofs.EntryLaws.{entry-by}
 use Rattle.merging.specs.inner.Keys.{reads}
 
 -- what was read, taken out of the test that it was
-pub taken : {A G : Type 0} (r : Parsed A) → reads r ≡ true → ((a : A) (e : ℕ) → r ≡ ok a e → G) → G
-taken (ok a e) h k = k a e refl
-taken (refused r) h k = let z : _≡_ {A = ℕ} 0 1 = cc in absurd (omega arith)
+was-read : {A G : Type 0} (r : Parsed A) → reads r ≡ true → ((a : A) (e : ℕ) → r ≡ ok a e → G) → G
+was-read (ok a e) h k = k a e refl
+was-read (refused r) h k = let z : _≡_ {A = ℕ} 0 1 = cc in absurd (omega arith)
+
+-- a number that is there is read
+pub number-there : (s : List ℕ) (at : ℕ) (r : Refusal) → at + 4 ≤ length s → u32 s at ≡ refused r → ⊥
+number-there s at r h g =
+    let e = u32-got s at h in
+    let z : _≡_ {A = ℕ} 0 1 = cc in
+    omega arith
+
+-- things one after the other that are read: so is the next one, and so are those after it
+reads-cons : {A : Type 0} (a : A) (r : Parsed (List A)) → reads (then r (λ l x. ok (a ∷ l) x)) ≡ reads r
+reads-cons a (ok l x) = refl
+reads-cons a (refused r) = refl
+
+pub next-read : {A G : Type 0} (p : ℕ → Parser A) (s : List ℕ) (i n at : ℕ) → i < n → reads (many p i (n - i) s at) ≡ true
+    → ((a : A) (next : ℕ) → p i s at ≡ ok a next → reads (many p (i + 1) (n - (i + 1)) s next) ≡ true → G) → G
+next-read {A} {G} p s i n at less h k = go (p i s at) refl
+  where
+    go : (r : Parsed A) → p i s at ≡ r → G
+    go (ok a next) g =
+        let more = many p (i + 1) (n - (i + 1)) s next in
+        k a next g (sym (reads-cons a more) ∙ ap reads (sym (many-go p s i n at next a less g)) ∙ h)
+    go (refused r) g =
+        let x : reads (many p i (n - i) s at) ≡ false = ap reads (many-no p s i n at r less g) in
+        let z : _≡_ {A = ℕ} 0 1 = cc in
+        absurd (omega arith)
+
+-- and they end where those after the first end
+next-cons : {A : Type 0} (a : A) (r : Parsed (List A)) (at next : ℕ) → reads r ≡ true → nextPosition (then r (λ l x. ok (a ∷ l) x)) at ≡ nextPosition r next
+next-cons a (ok l x) at next h = refl
+next-cons a (refused r) at next h = let z : _≡_ {A = ℕ} 0 1 = cc in absurd (omega arith)
 
 -- things one after the other end within the list, where each does
 inside-many : {A : Type 0} (p : ℕ → Parser A) (s : List ℕ) → ((i at e : ℕ) (a : A) → p i s at ≡ ok a e → e ≤ length s)
@@ -63,7 +93,7 @@ numbers-is s at e x h =
     record { there = omega arith; end = omega arith; inside = omega arith }
 
 pub numbers-end : (s : List ℕ) (at : ℕ) → reads (numbers s at) ≡ true → NumbersEnd s at (nextPosition (numbers s at) at)
-numbers-end s at h = taken (numbers s at) h λ x e g. rw g (numbers-is s at e x g)
+numbers-end s at h = was-read (numbers s at) h λ x e g. rw g (numbers-is s at e x g)
 
 -- ---- pairs
 pub record PairEnd (s : List ℕ) (at e : ℕ) : Type 0 where
@@ -89,15 +119,6 @@ pair-is s at e a h =
     let w : m + 4 ≤ length s = j .there in
     record { there = omega arith; end = omega arith; inside = omega arith }
 
--- what follows a thing that was read, with it before
-pub reads-cons : {A : Type 0} (a : A) (r : Parsed (List A)) → reads (then r (λ l x. ok (a ∷ l) x)) ≡ reads r
-reads-cons a (ok l x) = refl
-reads-cons a (refused r) = refl
-
-next-cons : {A : Type 0} (a : A) (r : Parsed (List A)) (at next : ℕ) → reads r ≡ true → nextPosition (then r (λ l x. ok (a ∷ l) x)) at ≡ nextPosition r next
-next-cons a (ok l x) at next h = refl
-next-cons a (refused r) at next h = let z : _≡_ {A = ℕ} 0 1 = cc in absurd (omega arith)
-
 -- what the loop over pairs holds: `d` is where the next one stands
 pub record Skipping (s : List ℕ) (n at d i : ℕ) : Type 0 where
   pub upto : i ≤ n
@@ -110,30 +131,22 @@ module _ (s : List ℕ) (n at : ℕ) where
   skip-start h g = record { upto = omega arith; inside = g; left = rw whole h; end = rw whole refl }
 
   pub record Turn (d i : ℕ) : Type 0 where
-    pub here : PairEnd s d (d + (8 + le32 s d))
+    pub pair : PairEnd s d (d + (8 + le32 s d))
     pub next : Skipping s n at (d + (8 + le32 s d)) (i + 1)
 
   pub skip-turn : (d i : ℕ) → Skipping s n at d i → i < n → Turn d i
-  skip-turn d i w less = go (pair s d) refl
-    where
-      go : (r : Parsed Pair) → pair s d ≡ r → Turn d i
-      go (ok q e) g =
-          let p = pair-is s d e q g in
-          let more = many (λ i. pair) (i + 1) (n - (i + 1)) s e in
-          let step : many (λ i. pair) i (n - i) s d ≡ then more (λ l x. ok (q ∷ l) x) = many-go (λ i. pair) s i n d e q less g in
-          let left : reads more ≡ true = sym (reads-cons q more) ∙ ap reads (sym step) ∙ w .left in
-          let next : Skipping s n at e (i + 1) = record {
-            upto = omega arith;
-            inside = p .inside;
-            left = left;
-            end = sym (next-cons q more d e left) ∙ ap (λ (x : Parsed (List Pair)). nextPosition x d) (sym step) ∙ w .end;
-          } in
-          record { here = rw (← p .end) p; next = rw (← p .end) next }
-      go (refused r) g =
-          let x : reads (many (λ i. pair) i (n - i) s d) ≡ false = ap reads (many-no (λ i. pair) s i n d r less g) in
-          let y = w .left in
-          let z : _≡_ {A = ℕ} 0 1 = cc in
-          absurd (omega arith)
+  skip-turn d i w less =
+      next-read (λ i. pair) s i n d less (w .left) λ q e g left.
+      let p = pair-is s d e q g in
+      let more = many (λ i. pair) (i + 1) (n - (i + 1)) s e in
+      let step : many (λ i. pair) i (n - i) s d ≡ then more (λ l x. ok (q ∷ l) x) = many-go (λ i. pair) s i n d e q less g in
+      let next : Skipping s n at e (i + 1) = record {
+        upto = omega arith;
+        inside = p .inside;
+        left = left;
+        end = sym (next-cons q more d e left) ∙ ap (λ (x : Parsed (List Pair)). nextPosition x d) (sym step) ∙ w .end;
+      } in
+      record { pair = rw (← p .end) p; next = rw (← p .end) next }
 
   pub skip-done : (d i : ℕ) → Skipping s n at d i → n ≤ i → d ≡ nextPosition (pairs n s at) at
   skip-done d i w h = sym (ap (λ (x : Parsed (List Pair)). nextPosition x d) (many-end (λ i. pair) s i n d h)) ∙ w .end
@@ -152,8 +165,17 @@ pub record EntryEnd (s : List ℕ) (at : ℕ) : Type 0 where
   pub third : reads (pairs (le32 s (countAt s at)) s (countAt s at + 4)) ≡ true
   pub end : nextPosition (pairs (le32 s (countAt s at)) s (countAt s at + 4)) (countAt s at + 4) ≡ nextPosition (entry 0 s at) at
 
-entry-parts : (s : List ℕ) (at e : ℕ) (a : PitchEntry) → entry 0 s at ≡ ok a e → EntryEnd s at
-unfolding entryBy metadata
+-- and it starts with its pitch
+pub record PitchFirst (s : List ℕ) (at : ℕ) (a : PitchEntry) : Type 0 where
+  pub there : at + 4 ≤ length s
+  pub pitch : a .f0Hz ≡ le32 s at
+
+pub record EntryParts (s : List ℕ) (at : ℕ) (a : PitchEntry) : Type 0 where
+  pub ends : EntryEnd s at
+  pub starts : PitchFirst s at a
+
+pub entry-parts : (s : List ℕ) (at e : ℕ) (a : PitchEntry) → entry 0 s at ≡ ok a e → EntryParts s at a
+unfolding entryBy metadata numbers
 entry-parts s at e a read =
     let h = sym (entry-by 0 s at) ∙ read in
     went (numbers s at) _ a e h λ x m₁ g₁ h₁.
@@ -161,39 +183,27 @@ entry-parts s at e a read =
     went (metadata s m₂) _ a e h₂ λ ms m₃ g₃ h₃.
     went (asked (eqb (y .first * (length (x .words) + y .second)) (length (y .words))) m₃ (refusal 6 0 0)) _ a e h₃ λ t m₄ g₄ h₄.
     went (u32 s m₂) (λ q next. pairs q s next) ms m₃ g₃ λ q m₅ g₅ h₅.
+    went (u32 s at) _ x m₁ g₁ λ f n₁ k₁ j₁.
+    went (u32 s n₁) _ x m₁ j₁ λ st n₂ k₂ j₂.
+    went (counted s n₂) _ x m₁ j₂ λ fs n₃ k₃ j₃.
     let w = asked-ok (eqb (y .first * (length (x .words) + y .second)) (length (y .words))) m₃ m₄ (refusal 6 0 0) t g₄ in
     let k = u32-is s m₂ q m₅ g₅ in
+    let i = u32-is s at f n₁ k₁ in
     let z : m₄ ≡ e = cc in
     let o : m₃ ≡ e = w .1 ∙ z in
     let p : pairs (le32 s m₂) s (m₂ + 4) ≡ ok ms m₃ = rw (← k .value, ← k .end) h₅ in
+    let u : a .f0Hz ≡ x .first = cc in
+    let v : x .first ≡ f = cc in
     record {
-      first = rw g₁ refl;
-      second = rw (g₁, g₂) refl;
-      there = rw (g₁, g₂) (k .there);
-      third = rw (g₁, g₂, p) refl;
-      end = rw (g₁, g₂, p, read) o;
+      ends = record {
+        first = rw g₁ refl;
+        second = rw (g₁, g₂) refl;
+        there = rw (g₁, g₂) (k .there);
+        third = rw (g₁, g₂, p) refl;
+        end = rw (g₁, g₂, p, read) o;
+      };
+      starts = record { there = i .there; pitch = u ∙ v ∙ i .value };
     }
 
-pub entry-parts-of : (s : List ℕ) (at : ℕ) → reads (entry 0 s at) ≡ true → EntryEnd s at
-entry-parts-of s at h = taken (entry 0 s at) h λ a e g. entry-parts s at e a g
-
--- an entry starts with its pitch
-pub record PitchFirst (s : List ℕ) (at : ℕ) (a : PitchEntry) : Type 0 where
-  pub there : at + 4 ≤ length s
-  pub pitch : a .f0Hz ≡ le32 s at
-
-pub pitch-first : (i : ℕ) (s : List ℕ) (at e : ℕ) (a : PitchEntry) → entry i s at ≡ ok a e → PitchFirst s at a
-unfolding entryBy numbers
-pitch-first i s at e a read =
-    let h = sym (entry-by i s at) ∙ read in
-    went (numbers s at) _ a e h λ x m₁ g₁ h₁.
-    went (numbers s m₁) _ a e h₁ λ y m₂ g₂ h₂.
-    went (metadata s m₂) _ a e h₂ λ ms m₃ g₃ h₃.
-    went (asked (eqb (y .first * (length (x .words) + y .second)) (length (y .words))) m₃ (refusal 6 i 0)) _ a e h₃ λ t m₄ g₄ h₄.
-    went (u32 s at) _ x m₁ g₁ λ f n₁ g₅ h₅.
-    went (u32 s n₁) _ x m₁ h₅ λ st n₂ g₆ h₆.
-    went (counted s n₂) _ x m₁ h₆ λ fs n₃ g₇ h₇.
-    let k = u32-is s at f n₁ g₅ in
-    let p : a .f0Hz ≡ x .first = cc in
-    let q : x .first ≡ f = cc in
-    record { there = k .there; pitch = p ∙ q ∙ k .value }
+pub entry-ends : (s : List ℕ) (at : ℕ) → reads (entry 0 s at) ≡ true → EntryEnd s at
+entry-ends s at h = was-read (entry 0 s at) h λ a e g. entry-parts s at e a g .ends

@@ -1,4 +1,4 @@
-// Past an entry that was read before: where it ends, by its counts alone. Nothing is asked of it again, and no key is looked into.
+// Past an entry that was read before: where it ends, by its counts alone. Nothing is asked of it again, and no pair's name is looked into.
 ghost use mathlib.Core.Path.{_≡_};
 ghost use mathlib.Core.Bool.{true};
 ghost use Prim.Native.Nat.{_+_, _≤_};
@@ -51,8 +51,8 @@ pub fn entry_end(s: &[u8], at: usize) -> usize
     requires { ⌜ reads (entry 0 (now s) at) ≡ true ⌝ }
     ensures { λ r. ⌜ r ≡ nextPosition (entry 0 (now (s .entry)) at) at ⌝ }
 {
-    let rows = numbers_end(s, at);
-    let count = numbers_end(s, rows);
-    let n = number_at(s, count);
-    pairs_end(s, count + 4, n)
+    let rows_at = numbers_end(s, at);
+    let count_at = numbers_end(s, rows_at);
+    let n = number_at(s, count_at);
+    pairs_end(s, count_at + 4, n)
 }

@@ -1,15 +1,14 @@
 -- Laws of the boundary's definitions. Assumes nothing.
 use Prim.Native.Nat.{ℕ, zero, suc, _+_, _≤_}
 use mathlib.Core.Path.{_≡_, refl, ap, sym, _∙_}
-use mathlib.Core.Logic.{_⊎_, inl, inr}
 use mathlib.Core.List.{List}
 use native.Mathlib.Omega.{arith}
-use mathlib.Core.Bool.{cond}
-use lib.Dec.{eqb}
+use mathlib.Core.Bool.{Bool, true, false, cond}
+use lib.Dec.{eqb, leb}
 use lib.Ieee.{Float}
 use lib.ListN.{length, drop, length-drop}
 use lib.Seq.{length-take-le}
-use Rattle.wire.specs.Parse.{refusal, Parsed, ok, refused}
+use Rattle.wire.specs.Parse.{Refusal, refusal, Parsed, ok, refused}
 use Rattle.wire.specs.Cursor.{part, string}
 use Rattle.wire.proofs.Found.{string-is}
 use Rattle.wire.proofs.Many.{went}
@@ -17,7 +16,9 @@ use Rattle.table.specs.declared.desk.Kind.{Kind}
 use Rattle.table.specs.declared.error.CoeffTableCodecError.{CoeffTableCodecError}
 use Rattle.table.specs.Table.{CoeffTable}
 use Rattle.table.specs.Image.{text}
-use Rattle.table.specs.Decode.{decode, nameOf}
+use Rattle.table.specs.Span.{consistent, agrees}
+use Rattle.table.specs.Decode.{decode, nameOf, maxImage}
+use Rattle.table.specs.Encode.{encode}
 use Rattle.table.specs.Name.{nameStart}
 use Rattle.table.specs.Answer.{refusalOf}
 use Rattle.table.proofs.Spelled.{table-parts, header-parts}
@@ -32,7 +33,7 @@ use Rattle.voice.specs.declared.voice.Voice.{Voice}
 use Rattle.player.specs.Playing.{played, Plays, PlaysParts}
 use Rattle.player.specs.declared.playing.Moved.{Moved}
 use Rattle.merging.specs.declared.tables.Merging.{Merging}
-use Rattle.merging.specs.Merge.{MergeOutcome, written, firstRefused, secondRefused, mergeRefused}
+use Rattle.merging.specs.Merge.{MergeOutcome, written, firstRefused, secondRefused, mergeRefused, joined, merging}
 use Rattle.merging.specs.Answer.{mergingOutcome}
 use Rattle.merging.proofs.ResultLaws.{merging-apart}
 use Rattle.sounder.specs.declared.answer.Answer.{Answer}
@@ -70,21 +71,18 @@ name-held s = go (decode s) refl
     go (ok t e) h = name-part s t e h
     go (refused r) h = refl
 
--- an image's refusal has a number from 1 to 7, so none has the numbers of an accepted call
-error-number : (e : CoeffTableCodecError) → (1 ≤ refusalOf e .number) × (refusalOf e .number ≤ 7)
-error-number CoeffTableCodecError.TooLong = (omega arith, omega arith)
-error-number CoeffTableCodecError.UnexpectedEof = (omega arith, omega arith)
-error-number CoeffTableCodecError.BadMagic = (omega arith, omega arith)
-error-number (CoeffTableCodecError.UnsupportedVersion v) = (omega arith, omega arith)
-error-number CoeffTableCodecError.BadUtf8 = (omega arith, omega arith)
-error-number (CoeffTableCodecError.MalformedEntry i) = (omega arith, omega arith)
-error-number (CoeffTableCodecError.InconsistentNoiseBandSpan f i) = (omega arith, omega arith)
+-- no refusal has the numbers of an accepted call
+numbered : (e : CoeffTableCodecError) → refusalOf e .number ≡ 0 → ⊥
+numbered CoeffTableCodecError.TooLong h = absurd (omega (arith, h))
+numbered CoeffTableCodecError.UnexpectedEof h = absurd (omega (arith, h))
+numbered CoeffTableCodecError.BadMagic h = absurd (omega (arith, h))
+numbered (CoeffTableCodecError.UnsupportedVersion v) h = absurd (omega (arith, h))
+numbered CoeffTableCodecError.BadUtf8 h = absurd (omega (arith, h))
+numbered (CoeffTableCodecError.MalformedEntry i) h = absurd (omega (arith, h))
+numbered (CoeffTableCodecError.InconsistentNoiseBandSpan f i) h = absurd (omega (arith, h))
 
 pub refused-apart : (e : CoeffTableCodecError) (a b : ℕ) → refusalAnswer (refusalOf e) ≡ done a b → ⊥
-refused-apart e a b h =
-    let n = error-number e in
-    let z : refusalOf e .number ≡ 0 = ap (λ (x : Answer). x .number) h in
-    omega arith
+refused-apart e a b h = numbered e (ap (λ (x : Answer). x .number) h)
 
 -- a call leaves of a voice all but its running state, refused or not: so who stores the state that it comes to has the voice that it comes to
 moved-in : (q n : ℕ) (v : Voice) (s x : State) → n ≡ q → x ≡ accepted-by q (withState v s) v .state
@@ -130,13 +128,22 @@ outcome-back Merging.TargetTooShort = refl
 pub merge-answers-apart : (a b : Merging) → mergeAnswer (mergingOutcome a) ≡ mergeAnswer (mergingOutcome b) → a ≡ b
 merge-answers-apart a b e = merging-apart a b (sym (outcome-back a) ∙ ap outcomeOf e ∙ outcome-back b)
 
--- LAW: which image an answer speaks of, in the header's numbers: of 1 to 7 it is 1 or 2, and 0 of 0 and of 21 to 23
-pub image-said : (m : Merging) → let a = mergeAnswer (mergingOutcome m) in
-    ((a .image ≡ 0) × ((a .answer .number ≡ 0) ⊎ ((21 ≤ a .answer .number) × (a .answer .number ≤ 23))))
-    ⊎ ((1 ≤ a .image) × (a .image ≤ 2) × (1 ≤ a .answer .number) × (a .answer .number ≤ 7))
-image-said (Merging.Written n bytes) = inl (refl, inl refl)
-image-said (Merging.FirstRefused e) = inr (omega arith, omega arith, error-number e .0, error-number e .1)
-image-said (Merging.SecondRefused e) = inr (omega arith, omega arith, error-number e .0, error-number e .1)
-image-said Merging.InconsistentSpans = inl (refl, inr (omega arith, omega arith))
-image-said Merging.TooLong = inl (refl, inr (omega arith, omega arith))
-image-said Merging.TargetTooShort = inl (refl, inr (omega arith, omega arith))
+-- LAW: which image an answer speaks of, in the header's numbers: 1 where the first is refused, 2 where the second is, else 0
+pub image-first : (r : Refusal) (q : Parsed CoeffTable) (n : ℕ) → mergeAnswer (merging (refused r) q n) ≡ record { answer = refusalAnswer r; image = 1 }
+image-first r q n = refl
+
+pub image-second : (t : CoeffTable) (e : ℕ) (r : Refusal) (n : ℕ) → mergeAnswer (merging (ok t e) (refused r) n) ≡ record { answer = refusalAnswer r; image = 2 }
+image-second t e r n = refl
+
+pub image-none : (t u : CoeffTable) (e f n : ℕ) → mergeAnswer (merging (ok t e) (ok u f) n) .image ≡ 0
+image-none t u e f n = asked (agrees (consistent (joined t u .entries))) (leb size maxImage) (leb size n)
+  where
+    size : ℕ
+    size = length (encode (joined t u))
+
+    asked : (a b c : Bool) → mergeAnswer
+        (cond a (cond b (cond c (written (length (joined t u .entries)) size) (mergeRefused (refusal 23 0 0))) (mergeRefused (refusal 22 0 0))) (mergeRefused (refusal 21 0 0))) .image ≡ 0
+    asked false b c = refl
+    asked true false c = refl
+    asked true true false = refl
+    asked true true true = refl

@@ -13,7 +13,7 @@ number-at-requires c κs =
 returns : tie.Need-returns
 returns c =
     let b2 = c .before .before in
-    record { accepted = b2 .pre; start = ap (λ (n : ℕ). 14 + n) (c .number-at .ensures) ∙ start-read (b2 .args .image .now) (b2 .args .count) (b2 .args .end) (b2 .pre) }
+    record { accepted = b2 .pre; start = ap (λ (n : ℕ). 14 + n) (c .number-at .ensures ∙ start-read (b2 .args .image .now) (b2 .args .count) (b2 .args .end) (b2 .pre)) }
 
 pub extent-of-spec : {M : Type 1} → statement M
 extent-of-spec = tie.close (tie.spec number-at-requires (λ c. search needs) (λ c. search needs) returns)

@@ -20,14 +20,14 @@ number-at-requires : tie.Need-number-at-requires Inv-loop μ-loop
 number-at-requires c κs =
     let b1 = c .before in
     let b3 = b1 .before .before in
-    skip-turn (b3 .args .s .now) (b3 .args .n) (b3 .args .at) (b1 .loop .end) (b1 .loop .i) (b1 .loop .inv) (c .loop-test .taken) .here .there
+    skip-turn (b3 .args .s .now) (b3 .args .n) (b3 .args .at) (b1 .loop .end) (b1 .loop .i) (b1 .loop .inv) (c .loop-test .taken) .pair .there
 
 add-end-2 : tie.Need-add-end-2 Inv-loop μ-loop
 add-end-2 c =
     let b1 = c .before in
     let b2 = b1 .before in
     let b4 = b2 .before .before in
-    let w = skip-turn (b4 .args .s .now) (b4 .args .n) (b4 .args .at) (b2 .loop .end) (b2 .loop .i) (b2 .loop .inv) (b1 .loop-test .taken) .here in omega arith
+    let w = skip-turn (b4 .args .s .now) (b4 .args .n) (b4 .args .at) (b2 .loop .end) (b2 .loop .i) (b2 .loop .inv) (b1 .loop-test .taken) .pair in omega arith
 
 loop-again : tie.Need-loop-again Inv-loop μ-loop
 loop-again c =
