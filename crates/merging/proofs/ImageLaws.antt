@@ -28,7 +28,8 @@ use Rattle.merging.specs.Order.{pitchRank}
 use Rattle.merging.specs.declared.extent.Extent.{Extent}
 use Rattle.merging.specs.Merge.{joined}
 use Rattle.merging.specs.inner.Extent.{AcceptedAt}
-use Rattle.merging.specs.inner.Keys.{reads, keysFrom, keysOf, bytesFor}
+use Rattle.table.specs.inner.Answers.{reads}
+use Rattle.merging.specs.inner.Keys.{keysFrom, keysOf, bytesFor}
 use Rattle.merging.specs.inner.Image.{laid, headOf, stable, stableImage, stableOver}
 use Rattle.merging.proofs.AcceptedLaws.{encode-entries, head-length}
 use Rattle.merging.proofs.KeyLaws.{keys-join, keys-merged}

@@ -12,7 +12,7 @@ use Rattle.table.specs.inner.Entry.{entryList}
 use Rattle.table.specs.Decode.{decode, entriesOf}
 use Rattle.table.specs.Span.{agreed, consistent, agrees}
 use Rattle.merging.specs.declared.extent.Extent.{Extent}
-use Rattle.merging.specs.inner.Keys.{reads}
+use Rattle.table.specs.inner.Answers.{reads}
 use Rattle.merging.proofs.ImageLaws.{Holds, holds-reads, holds-entries, holds-list}
 use Rattle.merging.proofs.SpanOrder.{joined-is}
 

@@ -2,25 +2,21 @@
 use Prim.Native.Nat.{ℕ, zero, suc, _+_, _-_, _*_, _≤_, _<_}
 use mathlib.Core.Path.{_≡_, refl, ap, sym, _∙_}
 use mathlib.Core.List.{List, _∷_}
-use mathlib.Core.Bool.{true, false}
+use mathlib.Core.Bool.{true}
 use native.Mathlib.Omega.{arith}
 use lib.ListN.{length}
 use lib.Dec.{eqb}
 use Rattle.wire.specs.Parse.{Refusal, refusal, Parser, Parsed, ok, refused, asked, then, many}
-use Rattle.wire.specs.Cursor.{le32, u32, string, nextPosition}
-use Rattle.wire.proofs.Found.{u32-got, u32-is, string-is}
-use Rattle.wire.proofs.Many.{whole, went, asked-ok, many-go, many-no, many-end, many-length}
+use Rattle.wire.specs.Cursor.{le32, u32, nextPosition}
+use Rattle.wire.proofs.Found.{u32-got, u32-is}
+use Rattle.wire.proofs.Many.{whole, went, asked-ok, many-go, many-end, many-length}
 use Rattle.table.specs.Table.{Pair, PitchEntry}
-use Rattle.table.specs.Image.{text, counted, pair, pairs, entry}
+use Rattle.table.specs.Image.{counted, pair, pairs, entry}
 use Rattle.table.specs.inner.Entry.{Numbers, numbers, metadata, entryBy}
+use Rattle.table.proofs.MetadataLaws.{was-read, next-read, pair-parts}
 use Rattle.table.proofs.SizeLaws.{counted-end}
 use Rattle.table.proofs.EntryLaws.{entry-by}
-use Rattle.merging.specs.inner.Keys.{reads}
-
--- what was read, taken out of the test that it was
-was-read : {A G : Type 0} (r : Parsed A) → reads r ≡ true → ((a : A) (e : ℕ) → r ≡ ok a e → G) → G
-was-read (ok a e) h k = k a e refl
-was-read (refused r) h k = let z : _≡_ {A = ℕ} 0 1 = cc in absurd (omega arith)
+use Rattle.table.specs.inner.Answers.{reads}
 
 -- a number that is there is read
 pub number-there : (s : List ℕ) (at : ℕ) (r : Refusal) → at + 4 ≤ length s → u32 s at ≡ refused r → ⊥
@@ -29,25 +25,7 @@ number-there s at r h g =
     let z : _≡_ {A = ℕ} 0 1 = cc in
     omega arith
 
--- things one after the other that are read: so is the next one, and so are those after it
-reads-cons : {A : Type 0} (a : A) (r : Parsed (List A)) → reads (then r (λ l x. ok (a ∷ l) x)) ≡ reads r
-reads-cons a (ok l x) = refl
-reads-cons a (refused r) = refl
-
-pub next-read : {A G : Type 0} (p : ℕ → Parser A) (s : List ℕ) (i n at : ℕ) → i < n → reads (many p i (n - i) s at) ≡ true
-    → ((a : A) (next : ℕ) → p i s at ≡ ok a next → reads (many p (i + 1) (n - (i + 1)) s next) ≡ true → G) → G
-next-read {A} {G} p s i n at less h k = go (p i s at) refl
-  where
-    go : (r : Parsed A) → p i s at ≡ r → G
-    go (ok a next) g =
-        let more = many p (i + 1) (n - (i + 1)) s next in
-        k a next g (sym (reads-cons a more) ∙ ap reads (sym (many-go p s i n at next a less g)) ∙ h)
-    go (refused r) g =
-        let x : reads (many p i (n - i) s at) ≡ false = ap reads (many-no p s i n at r less g) in
-        let z : _≡_ {A = ℕ} 0 1 = cc in
-        absurd (omega arith)
-
--- and they end where those after the first end
+-- things one after the other end where those after the first end
 next-cons : {A : Type 0} (a : A) (r : Parsed (List A)) (at next : ℕ) → reads r ≡ true → nextPosition (then r (λ l x. ok (a ∷ l) x)) at ≡ nextPosition r next
 next-cons a (ok l x) at next h = refl
 next-cons a (refused r) at next h = let z : _≡_ {A = ℕ} 0 1 = cc in absurd (omega arith)
@@ -102,22 +80,11 @@ pub record PairEnd (s : List ℕ) (at e : ℕ) : Type 0 where
   pub inside : e ≤ length s
 
 pair-is : (s : List ℕ) (at e : ℕ) (a : Pair) → pair s at ≡ ok a e → PairEnd s at e
-unfolding pair
 pair-is s at e a h =
-    went (text s at) (λ k next. then (u32 s next) (λ v e. ok (record { key = k; value = v }) e)) a e h λ k m g h₁.
-    went (u32 s m) (λ v e. ok (record { key = k; value = v }) e) a e h₁ λ v n g₂ h₂.
-    went (string s at) _ k m g λ p m₁ g₃ h₃.
-    let i = string-is s at m₁ p g₃ in
-    let j = u32-is s m v n g₂ in
-    let start : p .start ≡ at + 4 = i .start in
-    let end : m₁ ≡ p .start + p .len = i .end in
-    let size : p .len ≡ le32 s at = i .size in
-    let there : p .start + p .len ≤ length s = i .there in
-    let x : m₁ ≡ m = cc in
-    let y : n ≡ e = cc in
-    let z : n ≡ m + 4 = j .end in
-    let w : m + 4 ≤ length s = j .there in
-    record { there = omega arith; end = omega arith; inside = omega arith }
+    let p = pair-parts s at e a h in
+    let room : at + 4 + le32 s at + 4 ≤ length s = p .room in
+    let end : e ≡ at + 4 + le32 s at + 4 = p .end in
+    record { there = p .there; end = omega arith; inside = omega arith }
 
 -- what the loop over pairs holds: `d` is where the next one stands
 pub record Skipping (s : List ℕ) (n at d i : ℕ) : Type 0 where

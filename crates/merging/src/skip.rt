@@ -6,7 +6,7 @@ ghost use lib.ListN.{length};
 ghost use Rattle.wire.specs.Cursor.{le32, nextPosition};
 ghost use Rattle.table.specs.Image.{pairs, entry};
 ghost use Rattle.table.specs.inner.Entry.{numbers};
-ghost use Rattle.merging.specs.inner.Keys.{reads};
+ghost use Rattle.table.specs.inner.Answers.{reads};
 use wire::cursor::Cursor;
 use wire::cursor::U32Read;
 

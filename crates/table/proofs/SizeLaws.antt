@@ -2,6 +2,7 @@
 use Prim.Native.Nat.{ℕ, zero, suc, _+_, _*_, _≤_}
 use mathlib.Core.Path.{_≡_, refl, ap, sym, _∙_}
 use mathlib.Core.List.{List, [], _∷_}
+use mathlib.Core.Bool.{true}
 use native.Mathlib.Omega.{arith}
 use lib.ListN.{length, drop, length-drop}
 use lib.Seq.{length-take-le}
@@ -16,6 +17,7 @@ use Rattle.table.specs.Table.{Pair, PitchEntry}
 use Rattle.table.specs.Size.{total, pairSize, entrySize}
 use Rattle.table.specs.Image.{text, counted, pair, pairs, entry}
 use Rattle.table.specs.View.{wordList, pairList, entryAt, viewOf, PlacedRead}
+use Rattle.table.specs.inner.Answers.{reads}
 use Rattle.table.proofs.WordLaws.{length-words, counted-are}
 
 pub u32-end : (s : List ℕ) (at v e : ℕ) → u32 s at ≡ ok v e → e ≡ at + 4
@@ -79,10 +81,11 @@ pair-end s at e a h =
 pub pairs-end : (n : ℕ) (s : List ℕ) (at e : ℕ) (l : List Pair) → pairs n s at ≡ ok l e → e ≡ at + total pairSize l
 pairs-end n s at e l h = many-end (λ i. pair) pairSize s (λ i at e a. pair-end s at e a) n 0 at e l h
 
--- an entry that was read: where it ends, and that its view leads back to it
+-- an entry that was read: where it ends, that its view leads back to it, and that its pairs were read where the view has them
 pub record IsEntry (s : List ℕ) (at e : ℕ) (a : PitchEntry) : Type 0 where
   pub end : e ≡ at + entrySize a
   pub view : entryAt s (viewOf at a) ≡ a
+  pub pairs : reads (pairs (viewOf at a .pairs) s (viewOf at a .«pairs_at»)) ≡ true
 
 abbrev entryOf : ℕ → ℕ → List ℕ → ℕ → ℕ → List ℕ → List Pair → PitchEntry
 entryOf f st fs k j cs ms = record { f0Hz = f; stretch = st; partialFreqs = fs; kChannels = k; jNoise = j; coefficients = cs; metadata = ms }
@@ -120,7 +123,8 @@ entry-is i s at e a h =
     let v₂ : wordList s (at + 24 + 4 * length fs) (length cs) ≡ cs = rw (← p₂) (counted-are s m₅ m₆ cs g₆) in
     let v₃ : pairList (length ms) s (at + 28 + 4 * length fs + 4 * length cs) ≡ ms =
     rw (← p₃, many-length (λ i. pair) s n 0 m₇ m₈ ms g₈) (many-stand (λ i. pair) s n 0 m₇ m₈ ms g₈) in
-    rw (← q) (record { end = omega arith; view = entry-eq f st k j v₁ v₂ v₃ })
+    let v₄ : reads (pairs (length ms) s (at + 28 + 4 * length fs + 4 * length cs)) ≡ true = rw (← p₃, many-length (λ i. pair) s n 0 m₇ m₈ ms g₈) (ap reads g₈) in
+    rw (← q) (record { end = omega arith; view = entry-eq f st k j v₁ v₂ v₃; pairs = v₄ })
 
 pub entry-end : (i : ℕ) (s : List ℕ) (at e : ℕ) (a : PitchEntry) → entry i s at ≡ ok a e → e ≡ at + entrySize a
 entry-end i s at e a h = entry-is i s at e a h .end
@@ -152,6 +156,12 @@ view-is s at v p₁ p₂ p₃ l z =
     let m : length (entryAt s v .partialFreqs) ≡ v .«m_partials» = length-words s (v .«partials_at») (v .«m_partials») in
     let n : length (entryAt s v .coefficients) ≡ v .coefficients = length-words s (v .«coefficients_at») (v .coefficients) in
     view-eq (v .«f0_hz») (v .stretch) (v .«k_channels») (v .«j_noise») (sym m) (sym n) (sym l) p₁ (omega arith) (omega arith) z
+
+-- so a view that was read with its entry has pairs that were read
+pub view-reads : (i : ℕ) (s : List ℕ) (at e : ℕ) (v : EntryView) → entry i s at ≡ ok (entryAt s v) e → v ≡ viewOf at (entryAt s v)
+    → reads (pairs (v .pairs) s (v .«pairs_at»)) ≡ true
+view-reads i s at e v h p =
+    ap (λ (w : EntryView). reads (pairs (w .pairs) s (w .«pairs_at»))) p ∙ entry-is i s at e (entryAt s v) h .pairs
 
 -- what a reader's answer says of its view
 pub placed-view : (s : List ℕ) (at : ℕ) (r : EntryRead) (v : EntryView) → PlacedRead s at r → r ≡ EntryRead.Entry v → v ≡ viewOf at (entryAt s v)

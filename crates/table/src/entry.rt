@@ -200,5 +200,5 @@ pub fn coefficient(s: &[u8], v: EntryView, channel: u32, column: u32) -> u32
 pub fn metadata_value(s: &[u8], v: EntryView, key: &[u8]) -> Found
     ensures { λ r. ⌜ foundBits r ≡ metadataValue (now (key .entry)) (entryAt (now (s .entry)) v .metadata) ⌝ }
 {
-    find(s, Cursor { at: v.pairs_at }, v.pairs, key)
+    find(s, Cursor { at: v.pairs_at }, v.pairs, key, false)
 }

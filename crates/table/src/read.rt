@@ -36,7 +36,7 @@ fn entries_at(s: &[u8], c: Cursor, n: usize) -> Reading
     while i < n {
         match entry_at(s, d, i) {
             EntryRead::Entry(v) => {
-                j = judge(j, i, span_of(s, v));
+                j = judge(j, i, span_of(s, v, true));
                 d = Cursor { at: v.end };
             }
             EntryRead::Refused(e) => {

@@ -2,15 +2,18 @@
 ghost use mathlib.Core.Path.{_≡_};
 ghost use Rattle.table.specs.Span.{spanFrom, spanOf, floatEq, consistent, agrees};
 ghost use Rattle.table.specs.inner.Baseline.{judged, verdictFrom, concluded};
-ghost use mathlib.Core.Bool.{_&&_};
+ghost use mathlib.Core.Bool.{true, _&&_};
 ghost use mathlib.Core.List.{[], _∷_};
 ghost use Rattle.table.specs.View.{entryAt};
+ghost use Rattle.table.specs.Image.{pairs};
 ghost use Rattle.table.specs.Answer.{foundBits, readingParsed};
+ghost use Rattle.table.specs.inner.Answers.{reads};
 use crate::entry::EntryView;
-use crate::entry::metadata_value;
 use crate::error::CoeffTableCodecError;
 use crate::metadata::Found;
+use crate::metadata::find;
 use crate::read::Reading;
+use wire::cursor::Cursor;
 
 // The two keys of the span in one entry, with the values' bits.
 pub enum Span {
@@ -42,12 +45,14 @@ fn span_from(low: Found, high: Found) -> Span
     }
 }
 
-// The span that an entry's metadata gives.
-pub fn span_of(s: &[u8], v: EntryView) -> Span
+// The span that an entry's metadata gives. `known` says that its pairs were read before.
+pub fn span_of(s: &[u8], v: EntryView, known: bool) -> Span
+    requires { ⌜ (known ≡ true → reads (pairs (v .pairs) (now s) (v .«pairs_at»)) ≡ true) ⌝ }
     ensures { λ r. ⌜ r ≡ spanOf (entryAt (now (s .entry)) v) ⌝ }
 {
-    let low = metadata_value(s, v, b"noise_band_min_hz");
-    let high = metadata_value(s, v, b"noise_band_max_hz");
+    let c = Cursor { at: v.pairs_at };
+    let low = find(s, c, v.pairs, b"noise_band_min_hz", known);
+    let high = find(s, c, v.pairs, b"noise_band_max_hz", known);
     span_from(low, high)
 }
 
@@ -122,8 +127,8 @@ pub fn conclude(j: Baseline, n: usize, end: usize) -> Reading
 pub fn spans_agree(s: &[u8], v: EntryView, t: &[u8], w: EntryView) -> bool
     ensures { λ r. ⌜ r ≡ agrees (consistent (entryAt (now (s .entry)) v ∷ entryAt (now (t .entry)) w ∷ [])) ⌝ }
 {
-    let j = judge(Baseline::Start, 0, span_of(s, v));
-    match conclude(judge(j, 1, span_of(t, w)), 2, 0) {
+    let j = judge(Baseline::Start, 0, span_of(s, v, false));
+    match conclude(judge(j, 1, span_of(t, w, false)), 2, 0) {
         Reading::Accepted(_, _) => true,
         Reading::Refused(_) => false,
     }

@@ -72,7 +72,7 @@ fn views_at(s: &[u8], c: Cursor, n: usize) -> Views
     while i < n {
         match entry_at(s, d, i) {
             EntryRead::Entry(v) => {
-                j = judge(j, i, span_of(s, v));
+                j = judge(j, i, span_of(s, v, true));
                 d = Cursor { at: v.end };
                 if i < MAX_VIEWS {
                     views[i] = v;

@@ -1,6 +1,7 @@
 -- What the code's answers on the way mean. Cited by private functions only.
 use Prim.Native.Nat.{ℕ, _+_, _*_}
 use mathlib.Core.List.{List}
+use mathlib.Core.Bool.{Bool, true, false}
 use lib.ListN.{length}
 use Rattle.wire.specs.Parse.{refusal, Parsed, ok, refused}
 use Rattle.wire.specs.Cursor.{part}
@@ -12,6 +13,11 @@ use Rattle.table.specs.Table.{Pair}
 use Rattle.table.specs.Image.{Header}
 use Rattle.table.specs.View.{wordList}
 use Rattle.table.specs.Answer.{refusalOf}
+
+-- a value was read
+abbrev pub reads : {A : Type 0} → Parsed A → Bool
+reads (ok a e) = true
+reads (refused r) = false
 
 -- a count's numbers, and where they end
 abbrev pub countedParsed : List ℕ → Counted → Parsed (List ℕ)

@@ -1,6 +1,7 @@
 use mathlib.Core.Path.{ap, sym, _∙_}
 use Rattle.table.specs.View.{entryAt}
 use Rattle.table.specs.Answer.{readingParsed}
+use Rattle.table.proofs.MetadataLaws.{not-known}
 use Rattle.table.proofs.SpanLaws.{both-agree, both-differ}
 use borrow.Author.Needs.{needs}
 use Rattle.table.proofs.span.spans_agree.Statement.{statement}
@@ -33,9 +34,9 @@ pub spans-agree-spec : {M : Type 1} → statement M
 spans-agree-spec =
     tie.close
     (tie.spec
+    (λ c κs. not-known)
     (λ c κs. search needs)
-    (λ c κs. search needs)
-    (λ c κs. search needs)
+    (λ c κs. not-known)
     (λ c κs. search needs)
     (λ c κs. search needs)
     enum-told

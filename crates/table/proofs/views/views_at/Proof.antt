@@ -1,3 +1,4 @@
+use Rattle.table.proofs.SizeLaws.{view-reads, placed-view}
 use Prim.Native.Nat.{_≤_, _-_}
 use mathlib.Core.Path.{_≡_, refl, sym, ap, _∙_}
 use mathlib.Core.Logic.{⊎-elim}
@@ -50,7 +51,11 @@ enum-known-v c = search needs
 
 -- src/views.rt:73:33
 span-of-requires : tie.Need-span-of-requires Inv-loop μ-loop
-span-of-requires c κs = search needs
+span-of-requires c κs =
+    let b1 = c .before in
+    let b3 = b1 .before .before in
+    let b5 = b3 .before .before in
+    λ k. view-reads (b5 .loop .i) _ _ _ _ (sym (b3 .entry-at .ensures .0) ∙ ap (entryParsed _) (b1 .v .given .1)) (placed-view _ _ _ _ (b3 .entry-at .ensures .1) (b1 .v .given .1))
 
 -- src/views.rt:73:17
 judge-requires : tie.Need-judge-requires Inv-loop μ-loop
