@@ -26,7 +26,8 @@ use sounder::voices::sounder_reseed;
 use voice::Voice;
 use voice::rate_ok;
 
-fn usage() {
+// How it is called, the voice and its rate.
+fn usage_voice() {
     say::text(
         1,
         b"tone TABLE OUT.wav [option ..]: plays a coefficient table to a WAV file of 32-bit floats\n",
@@ -43,6 +44,10 @@ fn usage() {
         1,
         b"  --rate HZ       samples a second, 8000 to 192000 (48000)\n",
     );
+}
+
+// What sounds.
+fn usage_sound() {
     say::text(1, b"  --freq HZ       the pitch, at most 20000 (220)\n");
     say::text(1, b"  --to HZ         glide to this pitch, at most 20000\n");
     say::text(
@@ -55,6 +60,10 @@ fn usage() {
         1,
         b"  --centres FILE  the noise bands' centres, a number a line\n",
     );
+}
+
+// What changes: the rate while it sounds, and the loudness by the minute.
+fn usage_change() {
     say::text(
         1,
         b"  --retune HZ     go over to this rate while the tone sounds, 8000 to 192000\n",
@@ -71,6 +80,13 @@ fn usage() {
         1,
         b"  --minute M      the minute that the plan is asked for, 0 to 10079 or \"Mon 22:00\"; gains are multiplied by STEP / 100\n",
     );
+}
+
+// What --help prints.
+fn usage() {
+    usage_voice();
+    usage_sound();
+    usage_change();
     say::text(
         1,
         b"Numbers are decimal, with at most 15 digits. Numbered refusals are in README.md.\n",
