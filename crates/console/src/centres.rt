@@ -9,7 +9,7 @@ use crate::{file, say};
 
 // The centres, at the front of the values. `failed` says that there is no such file, or that a line is no centre; then `above` is how
 // many lines stand above the first such line, and `many` says that it is a number, but the seventeenth.
-#[derive(Drop)]
+#[derive(Clone, Copy)]
 pub struct Centres {
     pub values: [f32; 16],
     pub count: usize,
@@ -19,7 +19,7 @@ pub struct Centres {
 }
 
 // The line at hand: whether it has a byte, is a comment, starts with a minus, and its digits.
-#[derive(Drop)]
+#[derive(Clone, Copy)]
 struct Line {
     started: bool,
     comment: bool,
@@ -28,7 +28,7 @@ struct Line {
 }
 
 // What some of a text comes to: the centres of its whole lines, how many these are, and the line at hand.
-#[derive(Drop)]
+#[derive(Clone, Copy)]
 struct Reader {
     centres: Centres,
     above: usize,

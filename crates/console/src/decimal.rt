@@ -5,14 +5,14 @@ ghost use Rattle.console.specs.Decimal.{start_scan, spoilt_scan, next_scan, scan
 ghost use Rattle.console.specs.Decimal.{read_of, whole_of, found_number};
 
 // digits / 10^places, less than 0 where negative.
-#[derive(Drop)]
+#[derive(Clone, Copy)]
 pub struct Decimal {
     pub negative: bool,
     pub digits: u64,
     pub places: u32,
 }
 
-#[derive(Drop)]
+#[derive(Clone, Copy)]
 pub enum DecimalRead {
     Number(Decimal),
     Refused,
@@ -20,7 +20,7 @@ pub enum DecimalRead {
 
 // What is known after some of the text: the digits so far, how many stood after the point, whether there was a point
 // and a digit, and whether all was as it should be.
-#[derive(Drop)]
+#[derive(Clone, Copy)]
 pub struct Scan {
     pub digits: u64,
     pub places: u32,
@@ -143,7 +143,7 @@ pub fn read(text: &[u8]) -> DecimalRead
 }
 
 // A whole number, at most the largest u32.
-#[derive(Drop)]
+#[derive(Clone, Copy)]
 pub enum Whole {
     Number(u32),
     Refused,

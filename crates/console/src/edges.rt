@@ -4,7 +4,7 @@ ghost use Rattle.console.specs.Edges.{first_minute, spells, day_of, edge_of, two
 
 use crate::decimal::{Whole, read_whole};
 
-#[derive(Drop)]
+#[derive(Clone, Copy)]
 pub enum Day {
     Mon,
     Tue,
@@ -16,7 +16,7 @@ pub enum Day {
 }
 
 // What a word in the place of an edge is: a minute of the week, a day, whose clock is the next word, or neither.
-#[derive(Drop)]
+#[derive(Clone, Copy)]
 pub enum Edge {
     Minute(u32),
     OnDay(Day),

@@ -6,7 +6,7 @@ ghost use Rattle.console.specs.File.{HasRead};
 use crate::say;
 
 // How many bytes of the buffer were read, or that the file could not be opened or read.
-#[derive(Drop)]
+#[derive(Clone, Copy)]
 pub struct FileRead {
     pub failed: bool,
     pub bytes: usize,

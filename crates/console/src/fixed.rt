@@ -3,7 +3,7 @@ ghost use Rattle.std.specs.Prelude.{◌≡◌, ◌+◌, ◌*◌, ◌^◌, ◌<�
 ghost use Rattle.console.specs.Fixed.{total, InLimbs, rounded_of, significand_of, exponent_of, millionths_of, FixedIs};
 
 // A whole number in three limbs of 13 decimal digits: every float is below 10^39.
-#[derive(Drop)]
+#[derive(Clone, Copy)]
 pub struct Limbs {
     pub high: u64,
     pub middle: u64,
@@ -11,7 +11,7 @@ pub struct Limbs {
 }
 
 // The magnitude of a float: its whole part in limbs, and the millionths.
-#[derive(Drop)]
+#[derive(Clone, Copy)]
 pub struct Fixed {
     pub high: u64,
     pub middle: u64,

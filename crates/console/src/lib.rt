@@ -1,4 +1,6 @@
 // What the programs share: decimal numbers read and printed, the words for a refusal, files read and written, checksums, arguments.
+#![tactic(auto)]
+
 pub mod centres;
 pub mod crc;
 pub mod decimal;

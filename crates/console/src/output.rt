@@ -10,7 +10,7 @@ ghost use Rattle.console.specs.Output.{StandardOutput, Descriptor, PartNamed};
 use crate::say;
 
 // The programs that write a file, for the words in which they differ.
-#[derive(Drop)]
+#[derive(Clone, Copy)]
 pub enum Program {
     Tone,
     Merge,

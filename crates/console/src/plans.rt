@@ -9,7 +9,7 @@ use crate::edges::{Day, Edge, read_clock, read_edge};
 use quiet::{Plan, Window};
 
 // Why a line is no window.
-#[derive(Drop)]
+#[derive(Clone, Copy)]
 pub enum Reason {
     TooFew, // words
     TooMany, // words
@@ -19,7 +19,7 @@ pub enum Reason {
 }
 
 // The first line that is no window, by how many lines stand above it, and why.
-#[derive(Drop)]
+#[derive(Clone, Copy)]
 pub enum Fault {
     NoFault,
     BadLine(usize, Reason),
@@ -27,7 +27,7 @@ pub enum Fault {
 
 // What a text holds. Of each window `above` has how many lines stand above its own. A count of 65 stands for any number of more than 64:
 // the first 64 windows are kept, and of the sixty-fifth its line. Where a line is no window none is kept.
-#[derive(Drop)]
+#[derive(Clone, Copy)]
 pub struct Planned {
     pub plan: Plan,
     pub above: [usize; 65],
@@ -35,7 +35,7 @@ pub struct Planned {
 }
 
 // What the words of a line come to so far.
-#[derive(Drop)]
+#[derive(Clone, Copy)]
 enum Line {
     Empty,
     Comment,

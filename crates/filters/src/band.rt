@@ -10,7 +10,7 @@ use crate::compensation::{biquad_noise_power_gain, noise_power_compensation};
 use wave_table::table;
 
 #[repr(C)]
-#[derive(Drop)]
+#[derive(Clone, Copy)]
 pub struct Band {
     pub coeffs: BiquadCoeffs,
     pub compensation: f32,

@@ -11,7 +11,7 @@ use crate::wave::sine;
 const NOISE_BAND_Q: f32 = 1.0;
 
 #[repr(C)]
-#[derive(Drop)]
+#[derive(Clone, Copy)]
 pub struct BiquadCoeffs {
     pub b0: f32,
     pub b1: f32,
@@ -21,13 +21,13 @@ pub struct BiquadCoeffs {
 }
 
 #[repr(C)]
-#[derive(Drop)]
+#[derive(Clone, Copy)]
 pub struct BiquadState {
     pub z1: f32,
     pub z2: f32,
 }
 
-#[derive(Drop)]
+#[derive(Clone, Copy)]
 pub struct Tick {
     pub state: BiquadState,
     pub y: f32,
@@ -50,7 +50,7 @@ impl BiquadState {
     }
 }
 
-#[derive(Drop)]
+#[derive(Clone, Copy)]
 struct BiquadParams {
     cos_w0: f32,
     alpha: f32,

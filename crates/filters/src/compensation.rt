@@ -9,7 +9,7 @@ use crate::whole::whole_part;
 const PI: f32 = 3.14159274101257324219;
 
 #[repr(C)]
-#[derive(Drop)]
+#[derive(Clone, Copy)]
 pub struct NoisePower {
     pub power: f32,
     pub n: u32,

@@ -1,5 +1,7 @@
 // Noise and the bands that it passes, one sample at a time: noise numbers, band-pass filters, and what makes up for the power that a band
 // takes away; and the wave that stands for a sine.
+#![tactic(auto)]
+
 mod band;
 mod biquad;
 mod compensation;

@@ -5,12 +5,12 @@ ghost use Rattle.filters.specs.Rng.{stepped, signed_of, bipolar_of, new_rng, def
 const PARTIALS_NOISE_DEFAULT_SEED: u32 = 0x9A27_1E55;
 
 #[repr(C)]
-#[derive(Drop)]
+#[derive(Clone, Copy)]
 pub struct Rng {
     pub state: u32,
 }
 
-#[derive(Drop)]
+#[derive(Clone, Copy)]
 pub struct Bipolar {
     pub rng: Rng,
     pub value: f32,

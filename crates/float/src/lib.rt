@@ -1,4 +1,6 @@
 // Floats: the operations on `f32` that the project needs beside the operators. Each is defined for every float.
+#![tactic(auto)]
+
 mod bits;
 mod fault;
 mod interpolate;

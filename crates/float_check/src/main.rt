@@ -1,5 +1,7 @@
 // Compares the functions of `float` with answers that were worked out by whole numbers (cases.rt), and writes a line for each group of
 // cases. A case that differs is written out, and its group's line then says how many differ.
+#![tactic(auto)]
+
 mod cases;
 
 // The pattern of a float; one for every NaN.

@@ -2,6 +2,8 @@
 // of it. Several tables are taken one after the other. What is refused is said with its number on standard output, as part of the
 // answer; how many tables are of no use, a file that cannot be read, and wrong arguments are said on standard error, and so is that
 // standard output takes no more.
+#![tactic(auto)]
+
 mod entry;
 mod voices;
 
@@ -67,7 +69,7 @@ fn inspect(argument: usize, given: bool, centres: &[f32]) -> bool {
 
 // What the command line asks for. `centres` is the argument that names the file of centres, 0 where there is none; `skip` says that the
 // next argument does.
-#[derive(Drop)]
+#[derive(Clone, Copy)]
 struct Asked {
     tables: usize,
     centres: usize,
@@ -204,7 +206,7 @@ fn is_right(a: Asked) -> bool {
 }
 
 // Of how many tables so far no voice can be made, and whether standard output took less than was said; then nothing more is.
-#[derive(Drop)]
+#[derive(Clone, Copy)]
 struct Taken {
     bad: usize,
     short: bool,

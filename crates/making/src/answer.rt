@@ -15,7 +15,7 @@ use table::entry::{EntryView, has_channel};
 use table::error::CoeffTableCodecError;
 use voice::rate_ok;
 
-#[derive(Drop)]
+#[derive(Clone, Copy)]
 pub enum MakeAnswer {
     Done, // 0
     Refused(CoeffTableCodecError), // 1 to 7: the image is refused

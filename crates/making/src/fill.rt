@@ -11,7 +11,7 @@ use crate::coeffs::{gain_of, noise_coeff, partial_coeff};
 use table::desk::Kind;
 use table::entry::EntryView;
 
-#[derive(Drop)]
+#[derive(Clone, Copy)]
 pub struct Columns {
     pub f0_hz: [f32; 16],
     pub stretch: [f32; 16],
@@ -45,7 +45,7 @@ pub fn columns_of(s: &[u8], views: [EntryView; 16], count: usize) -> Columns
 }
 
 // What a slot of an entry holds: a channel, or nothing.
-#[derive(Drop)]
+#[derive(Clone, Copy)]
 pub enum Slot {
     Channel(u32),
     Empty,

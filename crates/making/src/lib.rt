@@ -1,4 +1,6 @@
 // Making a voice of a table's image: questions 1 to 12, then the fresh voice.
+#![tactic(auto)]
+
 mod answer;
 mod coeffs;
 mod counts;

@@ -10,7 +10,7 @@ use crate::coeffs::noise_coeff;
 use table::desk::Kind;
 use table::entry::EntryView;
 
-#[derive(Drop)]
+#[derive(Clone, Copy)]
 pub struct Live {
     pub bands: [u8; 16],
     pub count: usize,

@@ -21,7 +21,7 @@ use table::views::views_of;
 use voice::{LISTS_PLACES, MAX_ENTRIES, Setting, State, Voice, first_state, init};
 
 // The answer, and the voice: the blank one where the making is refused.
-#[derive(Drop)]
+#[derive(Clone, Copy)]
 pub struct MadeVoice {
     pub answer: MakeAnswer,
     pub voice: Voice,

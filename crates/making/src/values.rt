@@ -13,7 +13,7 @@ use table::entry::{EntryView, metadata_value, nth_coefficient};
 use voice::{pitch_ok, stretch_ok};
 
 // All values are good, or the index of the first entry with a bad one.
-#[derive(Drop)]
+#[derive(Clone, Copy)]
 pub enum ValuesAnswer {
     Good,
     Bad(usize),

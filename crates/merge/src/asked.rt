@@ -2,7 +2,7 @@
 use console::say;
 
 // Arguments by their number on the command line, 0 where there is none. `wrong` says that something is, and what has been said.
-#[derive(Drop)]
+#[derive(Clone, Copy)]
 pub struct Asked {
     pub first: usize,
     pub second: usize,

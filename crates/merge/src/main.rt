@@ -5,6 +5,8 @@
 // left alone; with --force the whole file takes the place of a file that has it, which may be one of the two tables.
 // A Rattle program has no exit status: everything that goes wrong is said on standard error, and nothing else is, so the shell
 // script tools/merge turns words there into status 1, and into 2 where the last of them are those of wrong use.
+#![tactic(auto)]
+
 mod asked;
 
 use asked::Asked;

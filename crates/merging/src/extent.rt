@@ -8,7 +8,7 @@ ghost use Rattle.merging.specs.inner.Extent.{AcceptedAt};
 use crate::skip::number_at;
 
 // Where the first entry starts, how many there are, and where the last one ends.
-#[derive(Drop)]
+#[derive(Clone, Copy)]
 pub struct Extent {
     pub at: usize,
     pub count: usize,

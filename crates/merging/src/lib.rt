@@ -1,4 +1,6 @@
 // Two tables made one: the entries of both in pitch order, under the first one's name. A merge knows nothing of voices.
+#![tactic(auto)]
+
 mod extent;
 mod head;
 mod keys;

@@ -15,7 +15,7 @@ use table::error::CoeffTableCodecError;
 use table::read::{Reading, from_bytes};
 
 // The entry count and the bytes written; or why nothing was written.
-#[derive(Drop)]
+#[derive(Clone, Copy)]
 pub enum Merging {
     Written(usize, usize),
     FirstRefused(CoeffTableCodecError),

@@ -12,7 +12,7 @@ use filters::Rng;
 use voice::{LISTS_PLACES, Setting, Shape};
 
 // Which channel of the block is played, and the noise number that it starts from.
-#[derive(Drop)]
+#[derive(Clone, Copy)]
 struct ChannelStart {
     ch: usize,
     rng: Rng,

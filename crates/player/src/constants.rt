@@ -3,7 +3,7 @@ ghost use Rattle.std.specs.Prelude.{◌≡◌};
 ghost use Rattle.float.specs.F32.{◌⊗◌, quotient};
 ghost use Rattle.player.specs.Phase.{inverse_of};
 
-#[derive(Drop)]
+#[derive(Clone, Copy)]
 pub struct Constants {
     pub blend: u32,
     pub k: usize,

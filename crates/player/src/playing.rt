@@ -9,7 +9,7 @@ use filters::Rng;
 use voice::{LISTS_PLACES, Played, Setting, Shape, State, Voice, play_question};
 
 // The number of the first question that is answered no, or 0; and the noise number after the call.
-#[derive(Drop)]
+#[derive(Clone, Copy)]
 pub struct Moved {
     pub number: u32,
     pub rng: Rng,

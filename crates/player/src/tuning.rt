@@ -22,14 +22,14 @@ use crate::partials::phase::partial_freq;
 use crate::pitch::bracket::{Sides, place_between, sides_at, value_between};
 use crate::pitch::kept::pitch_at;
 
-#[derive(Drop)]
+#[derive(Clone, Copy)]
 pub struct Tuning {
     pub f0: f32,
     pub mainlobe: f32,
     pub small: bool, // no step is above 31/32
 }
 
-#[derive(Drop)]
+#[derive(Clone, Copy)]
 pub struct NoiseTuning {
     pub f0: f32,
     pub noise_gain: f32,

@@ -1,5 +1,7 @@
 // Quiet windows: how loud a pole is to be at a minute of the week, by a planner's windows. A plan knows nothing of voices: its answer is a
 // gain, which the caller plays with.
+#![tactic(auto)]
+
 mod answer;
 mod gain;
 mod limits;

@@ -4,7 +4,7 @@
 // week's end; where the two are equal it holds no minute. Any numbers may stand here: the questions are asked of them as the planner wrote
 // them, since none had to become a narrower number first.
 #[repr(C)]
-#[derive(Drop)]
+#[derive(Clone, Copy)]
 pub struct Window {
     pub start: u32,
     pub end: u32,
@@ -13,7 +13,7 @@ pub struct Window {
 
 // The first `count` windows are the plan; the places beyond are never looked at.
 #[repr(C)]
-#[derive(Drop)]
+#[derive(Clone, Copy)]
 pub struct Plan {
     pub count: u32,
     pub windows: [Window; 64],

@@ -8,7 +8,7 @@ use crate::plan::Window;
 use crate::window::{edges_ok, holds_minute, step_ok};
 
 // What is looked for: a window with a bad edge, one with a bad step, one that holds a minute.
-#[derive(Drop)]
+#[derive(Clone, Copy)]
 pub enum Sought {
     BadEdge,
     BadStep,

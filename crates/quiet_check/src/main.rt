@@ -1,12 +1,14 @@
 // Asks the plans of cases.rt for every minute of the week, and writes a line for each run of minutes with one answer; then asks plans and
 // minutes at their limits, a line each. tools/quiet_answers.py works out what `stdout` has, apart from the crate `quiet`.
+#![tactic(auto)]
+
 mod cases;
 
 use quiet::{Plan, WEEK_MINUTES, Window};
 use sounder::plans::sounder_quiet_gain;
 
 // An answer as numbers: the refusal's, or 0; the window; and the gain's pattern.
-#[derive(Drop)]
+#[derive(Clone, Copy)]
 struct Told {
     number: u32,
     window: usize,
@@ -14,7 +16,7 @@ struct Told {
 }
 
 // Minutes that follow one another and have one answer.
-#[derive(Drop)]
+#[derive(Clone, Copy)]
 struct Run {
     from: u32,
     to: u32,

@@ -1,6 +1,8 @@
 // Replays lists of the original's answers beside the library, and compares them bit for bit (any NaN is like any other).
 // compare/driver wrote the lists in data/; data/README says how.
 // In a damaged list each record has one wrong answer: every one must be found.
+#![tactic(auto)]
+
 mod list;
 mod merging;
 mod places;

@@ -10,7 +10,7 @@ use sounder::voices::{sounder_make, sounder_play, sounder_reseed, sounder_reset,
 use voice::{Played, Shape, Voice};
 
 // What a call leaves: the counts, the voice that the list goes on with, and where the next call stands.
-#[derive(Drop)]
+#[derive(Clone, Copy)]
 struct Step {
     tally: Tally,
     voice: Voice,
@@ -93,7 +93,7 @@ fn concluded(
 }
 
 // Where a play's inputs stand, and what is after them: the output's channels.
-#[derive(Drop)]
+#[derive(Clone, Copy)]
 struct Inputs {
     freq: usize,
     g0: usize,

@@ -1,5 +1,5 @@
 // What a replay counts, and how a difference is told.
-#[derive(Drop)]
+#[derive(Clone, Copy)]
 pub struct Tally {
     pub record: u64, // the present record and the present call of its list, each from 0
     pub call: u64,

@@ -1,5 +1,7 @@
 // Runs at the limits: each line is what was asked, and the number of the answer (0: accepted). The expected lines in `stdout` are document
 // 01's, and of document 02 those of cards 1 to 3.
+#![tactic(auto)]
+
 mod images;
 mod merges;
 

@@ -8,7 +8,7 @@ use table::error::CoeffTableCodecError;
 // The number of the question that was answered no, with the values that it names (0 where it names none).
 // Of an accepted call the number is 0, and the values are those of the call.
 #[repr(C)]
-#[derive(Drop)]
+#[derive(Clone, Copy)]
 pub struct Answer {
     pub number: u32,
     pub first: usize,

@@ -15,7 +15,7 @@ use table::rewrite::{Rewriting, to_bytes};
 
 // A part of the caller's image.
 #[repr(C)]
-#[derive(Drop)]
+#[derive(Clone, Copy)]
 pub struct Place {
     pub start: usize,
     pub len: usize,
@@ -23,7 +23,7 @@ pub struct Place {
 
 // What the desk gets: a voice's band count, and the span's ends as the bits of floats. All 0 of a refused image.
 #[repr(C)]
-#[derive(Drop)]
+#[derive(Clone, Copy)]
 pub struct DeskAnswer {
     pub answer: Answer,
     pub bands: u32,

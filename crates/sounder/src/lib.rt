@@ -1,5 +1,7 @@
 // The boundary for C and Rust: functions of the C ABI over the crates below, with numbers in the place of enums.
 // A slice crosses as a pointer and a length, a struct by value, and a voice either way. include/sounder.h declares the same for C.
+#![tactic(auto)]
+
 mod answer;
 pub mod images;
 mod kind;

@@ -13,7 +13,7 @@ use table::error::CoeffTableCodecError;
 
 // Accepted: the entry count of the result and the bytes written. `image` says which image a refusal 1 to 7 speaks of, 1 or 2; else it is 0.
 #[repr(C)]
-#[derive(Drop)]
+#[derive(Clone, Copy)]
 pub struct MergeAnswer {
     pub answer: Answer,
     pub image: u32,

@@ -11,7 +11,7 @@ use quiet::{Plan, PlanAnswer, quiet_gain};
 
 // Accepted: first is the window that holds the minute, or the number of windows where none does.
 #[repr(C)]
-#[derive(Drop)]
+#[derive(Clone, Copy)]
 pub struct QuietAnswer {
     pub answer: Answer,
     pub gain: f32,

@@ -19,7 +19,7 @@ use voice::{BiquadCoeffs, Played, Shape, Voice, reseed, reset, retune};
 
 // The blank voice, all zero, where the making is refused.
 #[repr(C)]
-#[derive(Drop)]
+#[derive(Clone, Copy)]
 pub struct MadeAnswer {
     pub answer: Answer,
     pub voice: Voice,

@@ -14,7 +14,7 @@ use crate::metadata::Found;
 use wire::cursor::Cursor;
 
 // A voice's kind: one channel of the table, or the blend of its channels.
-#[derive(Drop)]
+#[derive(Clone, Copy)]
 pub enum Kind {
     Single(u32),
     Blend,
@@ -22,14 +22,14 @@ pub enum Kind {
 
 // A voice's band count, and the span's ends as the bits of floats.
 #[repr(C)]
-#[derive(Drop)]
+#[derive(Clone, Copy)]
 pub struct Desk {
     pub bands: u32,
     pub min_hz: u32,
     pub max_hz: u32,
 }
 
-#[derive(Drop)]
+#[derive(Clone, Copy)]
 pub enum DeskRead {
     Desk(Desk),
     Refused(CoeffTableCodecError),

@@ -14,7 +14,7 @@ use wire::cursor::{Cursor, Taken, U32Read};
 
 // An entry: its numbers (floats as bits), where its parts stand in the image, and where it ends.
 #[repr(C)]
-#[derive(Drop)]
+#[derive(Clone, Copy)]
 pub struct EntryView {
     pub f0_hz: u32,
     pub stretch: u32,
@@ -29,14 +29,14 @@ pub struct EntryView {
     pub end: usize,
 }
 
-#[derive(Drop)]
+#[derive(Clone, Copy)]
 pub enum EntryRead {
     Entry(EntryView),
     Refused(CoeffTableCodecError),
 }
 
 // A count, where its numbers start, and the cursor past them.
-#[derive(Drop)]
+#[derive(Clone, Copy)]
 pub enum Counted {
     Words(u32, usize, Cursor),
     UnexpectedEof,
@@ -58,7 +58,7 @@ fn counted_at(s: &[u8], c: Cursor) -> Counted
 }
 
 // Two numbers, a count, where the numbers that it counts start, and the cursor past them.
-#[derive(Drop)]
+#[derive(Clone, Copy)]
 pub enum NumbersRead {
     Numbers(u32, u32, u32, usize, Cursor),
     UnexpectedEof,
@@ -82,7 +82,7 @@ fn numbers_at(s: &[u8], c: Cursor) -> NumbersRead
 }
 
 // A count, where its pairs start, and the cursor past them.
-#[derive(Drop)]
+#[derive(Clone, Copy)]
 pub enum PairsRead {
     Pairs(u32, usize, Cursor),
     Refused(CoeffTableCodecError),

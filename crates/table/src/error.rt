@@ -1,5 +1,5 @@
 // Why an image is refused. The numbers are those of `refusal_of` in specs/Answer.antt.
-#[derive(Drop)]
+#[derive(Clone, Copy)]
 pub enum CoeffTableCodecError {
     TooLong, // 1: more than 65,536 bytes
     UnexpectedEof, // 2: the bytes that a field needs are not there

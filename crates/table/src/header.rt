@@ -10,7 +10,7 @@ use wire::cursor::{Cursor, StringRead, Taken, U16Read, U32Read};
 use wire::reader::string_from;
 
 // The name is `name` bytes from `name_at`; the entries start at `end`.
-#[derive(Drop)]
+#[derive(Clone, Copy)]
 pub struct HeaderView {
     pub version: u16,
     pub name_at: usize,
@@ -19,14 +19,14 @@ pub struct HeaderView {
     pub end: usize,
 }
 
-#[derive(Drop)]
+#[derive(Clone, Copy)]
 pub enum HeaderRead {
     Header(HeaderView),
     Refused(CoeffTableCodecError),
 }
 
 // The version, and the cursor past it.
-#[derive(Drop)]
+#[derive(Clone, Copy)]
 pub enum VersionRead {
     Version(u16, Cursor),
     Refused(CoeffTableCodecError),

@@ -1,4 +1,6 @@
 // Coefficient tables: the image that a planner's tool writes, read with questions 1 to 7, looked into, and rewritten.
+#![tactic(auto)]
+
 mod accepted;
 mod bytes;
 pub mod desk;

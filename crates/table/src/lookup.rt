@@ -9,7 +9,7 @@ use crate::entry::{EntryRead, EntryView, entry_at};
 use crate::header::HeaderRead;
 use wire::cursor::Cursor;
 
-#[derive(Drop)]
+#[derive(Clone, Copy)]
 pub enum EntryFound {
     Entry(EntryView),
     Nothing,

@@ -12,20 +12,20 @@ use crate::error::CoeffTableCodecError;
 use wire::cursor::{Cursor, StringRead, U32Read};
 
 // What the metadata says of a key: the value's bits, or nothing.
-#[derive(Drop)]
+#[derive(Clone, Copy)]
 pub enum Found {
     Bits(u32),
     Nothing,
 }
 
 // A pair: where its key starts, the key's length, the value's bits, and the cursor past it.
-#[derive(Drop)]
+#[derive(Clone, Copy)]
 pub enum PairRead {
     Pair(usize, usize, u32, Cursor),
     Refused(CoeffTableCodecError),
 }
 
-#[derive(Drop)]
+#[derive(Clone, Copy)]
 pub enum Skipped {
     To(Cursor),
     Refused(CoeffTableCodecError),

@@ -17,7 +17,7 @@ use crate::span::{Baseline, conclude, judge, span_of};
 use wire::cursor::Cursor;
 
 // The entry count and the end of the last entry, or why the image is refused.
-#[derive(Drop)]
+#[derive(Clone, Copy)]
 pub enum Reading {
     Accepted(usize, usize),
     Refused(CoeffTableCodecError),

@@ -7,7 +7,7 @@ use crate::error::CoeffTableCodecError;
 use crate::read::{Reading, from_bytes};
 
 // The entry count and the bytes written; or why nothing was written (17: the target is shorter than the rewritten image).
-#[derive(Drop)]
+#[derive(Clone, Copy)]
 pub enum Rewriting {
     Written(usize, usize),
     Refused(CoeffTableCodecError),

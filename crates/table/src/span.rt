@@ -14,7 +14,7 @@ use crate::read::Reading;
 use wire::cursor::Cursor;
 
 // The two keys of the span in one entry, with the values' bits.
-#[derive(Drop)]
+#[derive(Clone, Copy)]
 pub enum Span {
     Neither,
     Both(u32, u32),
@@ -22,7 +22,7 @@ pub enum Span {
 }
 
 // What the entries so far agree on, or the first that broke it (first_entry and index).
-#[derive(Drop)]
+#[derive(Clone, Copy)]
 pub enum Baseline {
     Start,
     Neither,

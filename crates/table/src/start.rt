@@ -7,7 +7,7 @@ use crate::accepted::table_header;
 use crate::header::HeaderRead;
 
 // The entry count and the first entry's position; 0 and 0 where the image is refused.
-#[derive(Drop)]
+#[derive(Clone, Copy)]
 pub struct Start {
     pub count: usize,
     pub at: usize,

@@ -18,7 +18,7 @@ use crate::span::{Baseline, conclude, judge, span_of};
 use wire::cursor::Cursor;
 
 // The answer of `from_bytes`, and a view of each of the first 16 entries; past the last, and where the image is refused, of nothing.
-#[derive(Drop)]
+#[derive(Clone, Copy)]
 pub struct Views {
     pub reading: Reading,
     pub views: [EntryView; 16],

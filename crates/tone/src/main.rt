@@ -4,6 +4,8 @@
 // fails, the .part is removed (console/src/output.rt). A name that is there already is left alone.
 // A Rattle program has no exit status: everything that goes wrong is said on standard error, and nothing else is, so the shell
 // script tools/tone turns words there into status 1, and into 2 where the last of them are those of wrong use.
+#![tactic(auto)]
+
 mod options;
 mod output;
 mod plan;

@@ -5,7 +5,7 @@ use console::{decimal, plans, say};
 
 // Arguments by their number on the command line, 0 where there is none. `skip` says that the next argument was a value, `given` which
 // options were given, by their number below.
-#[derive(Drop)]
+#[derive(Clone, Copy)]
 pub struct Options {
     pub table: usize,
     pub out: usize,

@@ -9,7 +9,7 @@ use sounder::plans::sounder_quiet_gain;
 
 // What the plan gives: a gain, and the window that holds the minute with how many lines stand above its line; or that none holds it.
 // `failed` says that the plan was not read or is refused, and why has been said.
-#[derive(Drop)]
+#[derive(Clone, Copy)]
 pub struct Loudness {
     pub failed: bool,
     pub gain: f32,

@@ -8,7 +8,7 @@ use table::desk::larger;
 use voice::{Shape, Voice};
 
 // How far the playing has come: the voice, the bytes sent, the largest magnitude as a pattern, and the number of a refusal (0: none).
-#[derive(Drop)]
+#[derive(Clone, Copy)]
 pub struct Run {
     pub voice: Voice,
     pub sink: Sink,

@@ -2,7 +2,7 @@
 use console::crc;
 
 // The running checksum, and whether a write failed or was short; then nothing more is written.
-#[derive(Drop)]
+#[derive(Clone, Copy)]
 pub struct Sink {
     pub crc: u32,
     pub short: bool,

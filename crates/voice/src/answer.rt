@@ -6,7 +6,7 @@ use crate::voice::{Setting, State, Voice};
 // rules; 14: the output is no block; 15: an input does not fit the block; 16: a finite frequency is above 20,000); and the voice, which is
 // then as given. It crosses to C as it is.
 #[repr(C)]
-#[derive(Drop)]
+#[derive(Clone, Copy)]
 pub struct Played {
     pub number: u32,
     pub voice: Voice,
@@ -14,7 +14,7 @@ pub struct Played {
 
 // What a reset or a reseed comes to, of the running state alone: the number, and the state after it, which is as given where the number is
 // not 0.
-#[derive(Drop)]
+#[derive(Clone, Copy)]
 pub struct Restarted {
     pub number: u32,
     pub state: State,
@@ -22,7 +22,7 @@ pub struct Restarted {
 
 // What a retune comes to, of what it changes: the number, and the voice's numbers and short lists after it, which are as given where the
 // number is not 0.
-#[derive(Drop)]
+#[derive(Clone, Copy)]
 pub struct Retuned {
     pub number: u32,
     pub set: Setting,

@@ -10,7 +10,7 @@ use crate::lists::{BANDS_AT, CENTRES, COMPENSATIONS, LISTS_PLACES, list_of, put_
 use filters::{BiquadCoeffs, init_band, zero_coeffs};
 
 // What each band has one of.
-#[derive(Drop)]
+#[derive(Clone, Copy)]
 pub struct Bands {
     pub coeffs: [BiquadCoeffs; 16],
     pub compensation: [f32; 16],

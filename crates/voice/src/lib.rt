@@ -1,4 +1,6 @@
 // A voice, its rules, the questions 13 to 16 (11 of a retune) that a call on it is asked, what `init` gives it, reset, reseed and retune.
+#![tactic(auto)]
+
 mod answer;
 mod bands;
 mod limits;

@@ -2,7 +2,7 @@
 
 // An input of 0 channels is unconnected. Else its slice holds that many channels of the block's length, one after the other.
 #[repr(C)]
-#[derive(Drop)]
+#[derive(Clone, Copy)]
 pub struct Shape {
     pub samples: usize,
     pub channels: usize, // of the output

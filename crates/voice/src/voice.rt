@@ -4,7 +4,7 @@ use filters::Rng;
 
 // The running state: phases, two memories for each band, one band after the other, and the noise number.
 #[repr(C)]
-#[derive(Drop)]
+#[derive(Clone, Copy)]
 pub struct State {
     pub phases: [f32; 32],
     pub memories: [f32; 32],
@@ -13,7 +13,7 @@ pub struct State {
 
 // A voice's numbers.
 #[repr(C)]
-#[derive(Drop)]
+#[derive(Clone, Copy)]
 pub struct Setting {
     pub blend: u32, // 0: a single voice of the channel below; else a blend
     pub channel: u32, // a single voice's channel of the table
@@ -29,7 +29,7 @@ pub struct Setting {
 // Places that are not in use are 0 in a fresh voice. A play leaves them as given; a reset writes all of the state, a reseed
 // all memories and the noise number, a retune all bands and compensations.
 #[repr(C)]
-#[derive(Drop)]
+#[derive(Clone, Copy)]
 pub struct Voice {
     pub set: Setting,
     // 16 pitches, ascending; 16 stretches, mainlobe gains and noise gains; 16 bands of five coefficients; 16 compensations;

@@ -1,4 +1,6 @@
 // The tables of the wave: the paper's 257 whole numbers, and the 1025 floats that columns are looked up in.
+#![tactic(auto)]
+
 mod cycle;
 mod quarter;
 

@@ -5,25 +5,25 @@ ghost use Rattle.wire.specs.Cursor.{taken_parsed, u16_parsed, u32_parsed, string
 
 use crate::utf8::from_utf8;
 
-#[derive(Drop)]
+#[derive(Clone, Copy)]
 pub struct Cursor {
     pub at: usize,
 }
 
 // A part of the image: where it starts, and the cursor at its end.
-#[derive(Drop)]
+#[derive(Clone, Copy)]
 pub enum Taken {
     Part(usize, Cursor),
     UnexpectedEof,
 }
 
-#[derive(Drop)]
+#[derive(Clone, Copy)]
 pub enum U16Read {
     Value(u16, Cursor),
     UnexpectedEof,
 }
 
-#[derive(Drop)]
+#[derive(Clone, Copy)]
 pub enum U32Read {
     Value(u32, Cursor),
     UnexpectedEof,
@@ -31,7 +31,7 @@ pub enum U32Read {
 
 // A string: where its bytes start, how many they are, and the cursor past them. A refusal has the cursor past what was there: the length,
 // and the bytes that are not UTF-8.
-#[derive(Drop)]
+#[derive(Clone, Copy)]
 pub enum StringRead {
     Value(usize, usize, Cursor),
     UnexpectedEof(Cursor),

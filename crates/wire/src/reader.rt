@@ -8,7 +8,7 @@ ghost use Rattle.wire.specs.Reader.{Reads, ReadsString};
 
 use crate::cursor::{Cursor, StringRead, Taken, U16Read, U32Read};
 
-#[derive(Drop)]
+#[derive(Clone, Copy)]
 pub struct Reader<'a> {
     pub buf: &'a [u8],
     pub pos: usize,

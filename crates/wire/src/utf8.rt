@@ -5,7 +5,7 @@ ghost use Rattle.wire.specs.inner.Utf8State.{ranges, follow_next, NoneAbove};
 ghost use Rattle.wire.specs.declared.utf8.Follow.{Follow};
 
 // What must follow in a character: `left` bytes more, the next one from `low` to `high`, those after it from 0x80 to 0xBF.
-#[derive(Drop)]
+#[derive(Clone, Copy)]
 pub struct Rest {
     pub left: u8,
     pub low: u8,
@@ -13,7 +13,7 @@ pub struct Rest {
 }
 
 // What a byte leaves to follow, or that it cannot stand where it does.
-#[derive(Drop)]
+#[derive(Clone, Copy)]
 pub enum Follow {
     Rest(Rest),
     Bad,

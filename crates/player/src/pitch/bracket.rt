@@ -11,14 +11,14 @@ ghost use Rattle.player.specs.inner.Ranges.{SidesIn};
 ghost use Rattle.voice.specs.Limits.{max_entries, max_hz};
 
 // One entry by its index, or two neighbours with the share between them.
-#[derive(Drop)]
+#[derive(Clone, Copy)]
 pub enum Bracket {
     One(usize),
     Between(usize, usize, f32),
 }
 
 // The two sides of a bracket: one entry stands on both, with t = 0.
-#[derive(Drop)]
+#[derive(Clone, Copy)]
 pub struct Sides {
     pub lo: usize,
     pub hi: usize,

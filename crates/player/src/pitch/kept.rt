@@ -13,7 +13,7 @@ ghost use Rattle.voice.specs.Limits.{max_entries, max_hz};
 use crate::pitch::bracket::{Sides, sides_at, value_between};
 use crate::pitch::stretch::stretch_between;
 
-#[derive(Drop)]
+#[derive(Clone, Copy)]
 pub struct Pitch {
     pub f0: f32,
     pub s: Sides,
