@@ -2,12 +2,8 @@
 use lib.Ieee.{of_bits, neg, of_int}
 use Rattle.wave_table.specs.Wave.{quarter_of, wave_of}
 use Rattle.wave_table.proofs.Alike.{alike, waved, waves-is}
-use Rattle.wave_table.proofs.cycle.waves.Statement.{statement}
-use Rattle.wave_table.proofs.cycle.waves.Tie as tie
+use Rattle.wave_table.proofs.cycle.waves.Goals as goal
 
-returns : tie.Need-returns
+pub returns : goal.returns
 unfolding waved alike wave_of quarter_of of_int of_bits neg
 returns c = waves-is _ tt
-
-pub waves-spec : {M : Type 1} → statement M
-waves-spec = tie.close (tie.spec returns)

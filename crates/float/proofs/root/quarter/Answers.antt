@@ -4,9 +4,7 @@ use Prim.Native.Nat.{ℕ, zero, suc, ◌+◌, ◌-◌, ◌*◌, ◌/◌, ◌%◌
 use native.Mathlib.Omega.{arith}
 use Rattle.float.specs.Sqrt.{scaled}
 use Rattle.float.proofs.RootLaws.{scaled-range, scaled-even, scaled-odd}
-use borrow.Author.Rules.{rules}
-use Rattle.float.proofs.root.quarter.Statement.{statement}
-use Rattle.float.proofs.root.quarter.Tie as tie
+use Rattle.float.proofs.root.quarter.Goals as goal
 
 -- by the last digit of the exponent's field
 value : (b : ℕ) → 4 * ((b % 8388608 + 8388608) * (16777216 - b / 8388608 % 2 * 8388608)) ≡ scaled b
@@ -35,27 +33,8 @@ fits b = less _ (scaled b) (value b) (scaled-range b).1
     less : (a s : ℕ) → 4 * a ≡ s → s < 2 ^ 50 → a < 2 ^ 64
     less a s e h = omega arith
 
-add-m : tie.Need-overflow-add-m
-add-m c = search rules
+pub overflow_mul-result-2 : goal.overflow_mul-result-2
+overflow_mul-result-2 c = record { fits = fits c.args.b }
 
-cast-m : tie.Need-overflow-cast-m
-cast-m c = search rules
-
-cast-odd : tie.Need-overflow-cast-odd
-cast-odd c = search rules
-
-mul-result : tie.Need-overflow-mul-result
-mul-result c = search rules
-
-sub-result : tie.Need-overflow-sub-result
-sub-result c = search rules
-
-mul-result-2 : tie.Need-overflow-mul-result-2
-mul-result-2 c = record { fits = fits c.args.b }
-
-returns : tie.Need-returns
+pub returns : goal.returns
 returns c = value c.args.b
-
-pub quarter-spec : {M : Type 1} → statement M
-quarter-spec =
-    tie.close (tie.spec add-m cast-m cast-odd mul-result sub-result mul-result-2 returns)
