@@ -11,7 +11,7 @@ pub float_to_bits-b : goal.float_to_bits-b
 float_to_bits-b c = plain-no-nan c.args.x (normal-plain c.args.x c.requires)
 
 pub near-requires : goal.near-requires
-near-requires c = record { fact_1 = plain-no-nan c.args.x (normal-plain c.args.x c.requires); fact_2 = ((normal-range c.args.x (shown (fits binary32 c.args.x) c.well_formed.0.1) c.requires).1) }
+near-requires c = record { no_nan = plain-no-nan c.args.x (normal-plain c.args.x c.requires); finite_bits = ((normal-range c.args.x (shown (fits binary32 c.args.x) c.well_formed.0.1) c.requires).1) }
 
 pub nearest-requires : goal.nearest-requires
 nearest-requires c = let q = quartered c.quarter.result (to_bits binary32 c.args.x) c.quarter.ensures in (q.0, q.1, c.near.ensures)
