@@ -101,6 +101,7 @@ fn inputs_ok(
 
 // The first of questions 13 to 16 that is answered no, or 0: of a voice's numbers, short lists and phases, a call, and the length of its
 // output.
+#[tactic(auto, unfolding(crate::specs::Question::ask, crate::specs::Question::call_question))]
 pub fn play_question<'a>(
     set: Setting,
     lists: &'a [f32; LISTS_PLACES],
