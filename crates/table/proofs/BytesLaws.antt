@@ -2,7 +2,7 @@
 use Prim.Native.Nat.{ℕ, suc, ◌+◌, ◌-◌, ◌≤◌, ◌<◌}
 use mathlib.Core.Path.{◌≡◌, refl, ap, sym, ◌∙◌}
 use mathlib.Core.List.{List, [], ◌∷◌}
-use mathlib.Core.Bool.{Bool, true, false, not, cond}
+use mathlib.Core.Bool.{Bool, true, false, cond}
 use native.Mathlib.Omega.{arith}
 use native.Mathlib.Numerals.{add-one}
 use lib.ListN.{length, get_or, take, drop, length-drop, drop_of_length-le}
@@ -43,12 +43,3 @@ pub part_end : (s : List ℕ) (at n : ℕ) → length s - at < n → take (lengt
 part_end s at n h =
     take_all (length s - at) (drop at s) (simp length-drop (omega arith))
     ∙ sym (take_all n (drop at s) (simp length-drop (omega arith)))
-
--- a test that is negated in the code
-pub not-true : (b : Bool) → not b ≡ true → b ≡ false
-not-true true h = let z : ◌≡◌ {A = ℕ} 0 1 = cc in absurd (omega arith)
-not-true false h = refl
-
-pub not-false : (b : Bool) → not b ≡ false → b ≡ true
-not-false true h = refl
-not-false false h = let z : ◌≡◌ {A = ℕ} 0 1 = cc in absurd (omega arith)

@@ -22,12 +22,12 @@ returns-then-v-width c =
 
 pub overflow_mul-channel : goal.overflow_mul-channel
 overflow_mul-channel c =
-    let w : c.args.v.m_partials + c.args.v.j_noise < 2 ^ 32 = omega (arith, c.struct_known-4-1.given) in
+    let w : c.args.v.m_partials + c.args.v.j_noise < 2 ^ 32 = omega arith in
     omega (arith, product-fits c.args.channel (c.args.v.m_partials + c.args.v.j_noise) c.ranges.channel.fits w)
 
 pub overflow_add-channel : goal.overflow_add-channel
 overflow_add-channel c =
-    let w : c.args.v.m_partials + c.args.v.j_noise < 2 ^ 32 = omega (arith, c.struct_known-4-1.given) in
+    let w : c.args.v.m_partials + c.args.v.j_noise < 2 ^ 32 = omega arith in
     omega (arith, product-fits c.args.channel (c.args.v.m_partials + c.args.v.j_noise) c.ranges.channel.fits w)
 
 pub returns : goal.returns
