@@ -57,9 +57,9 @@ struct BiquadParams {
 }
 
 fn biquad_params(t: &[u32; 257], freq: f32, q: f32, sample_rate: f32) -> BiquadParams
-    requires fact_1 { Table t.now }
-    requires fact_2 { Phase (turn freq sample_rate) }
-    requires fact_3 { Phase (turn_quarter freq sample_rate) }
+    requires is_table { Table t.now }
+    requires sine_phase { Phase (turn freq sample_rate) }
+    requires cosine_phase { Phase (turn_quarter freq sample_rate) }
     ensures { result ≡ params_of freq q sample_rate }
 {
     let turn = freq / sample_rate;
@@ -84,9 +84,9 @@ fn normalize(b0: f32, b1: f32, b2: f32, a0: f32, a1: f32, a2: f32) -> BiquadCoef
 
 // The band-pass of 0 dB peak.
 pub fn biquad_bpf_coeffs(t: &[u32; 257], freq: f32, q: f32, sample_rate: f32) -> BiquadCoeffs
-    requires fact_1 { Table t.now }
-    requires fact_2 { Phase (turn freq sample_rate) }
-    requires fact_3 { Phase (turn_quarter freq sample_rate) }
+    requires is_table { Table t.now }
+    requires sine_phase { Phase (turn freq sample_rate) }
+    requires cosine_phase { Phase (turn_quarter freq sample_rate) }
     ensures { result ≡ band_pass freq q sample_rate }
 {
     let p = biquad_params(t, freq, q, sample_rate);
@@ -106,8 +106,8 @@ pub fn band_center(raw: f32, sample_rate: f32) -> f32
 
 // The band whose centre is raw, held to its limits.
 pub fn noise_band(t: &[u32; 257], raw: f32, sample_rate: f32) -> BiquadCoeffs
-    requires fact_1 { Table t.now }
-    requires fact_2 { Rate sample_rate }
+    requires is_table { Table t.now }
+    requires is_rate { Rate sample_rate }
     ensures { result ≡ noise_band raw sample_rate }
 {
     biquad_bpf_coeffs(t, band_center(raw, sample_rate), NOISE_BAND_Q, sample_rate)

@@ -69,8 +69,8 @@ fn is_plus_zero(x: f32) -> bool
 // nothing but the sign of a zero. So y is z2 - a1 * (the y before), with that sign seen to beforehand, where a tick waits for four
 // operations.
 fn ring_quiet(c: BiquadCoeffs, n: u32) -> NoisePower
-    requires fact_1 { quiet c ≡ true }
-    requires fact_2 { 0 < n }
+    requires is_quiet { quiet c ≡ true }
+    requires some { 0 < n }
     ensures { result ≡ rung c n }
 {
     let silent = BiquadState::new();

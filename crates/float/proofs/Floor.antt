@@ -8,7 +8,7 @@ use mathlib.Core.Bool.{true, false}
 use lib.IntN.{pos, negsuc}
 use lib.Dec.{T, lit≤, lit<}
 use lib.Pow.{pow_pos}
-use lib.Ieee.{Float, nan, inf, fin, binary32, up, round, add, sub, le, lt, of_int, to_unsigned, fits}
+use lib.Ieee.{Float, nan, inf, fin, binary32, round, add, sub, le, lt, of_int, to_unsigned, fits}
 use lib.Ieee.Fits.{add-fits}
 use lib.Ieee.Exact.{HasValue}
 use lib.Ieee.Back.{round_whole}

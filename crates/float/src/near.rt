@@ -27,8 +27,8 @@ fn inverse(x: f32, b: u32) -> f32
 
 // The significand, of 24 digits, of a float near the root of x; b is the pattern of x. The last of Newton's steps is in `f64`.
 pub(crate) fn near(x: f32, b: u32) -> u64
-    requires fact_1 { T (not (is_nan x)) }
-    requires fact_2 { b < 2139095040 }
+    requires no_nan { T (not (is_nan x)) }
+    requires finite_bits { b < 2139095040 }
     ensures { result ≤ 16777216 }
 {
     let y = above_zero(inverse(x, b)) as f64;

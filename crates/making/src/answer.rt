@@ -103,8 +103,8 @@ fn later_question(
     sample_rate: f32,
     centres: &[f32],
 ) -> MakeAnswer
-    requires fact_1 { count ≤ max_entries }
-    requires fact_2 { ((s : List ℕ) → bands ≡ band_count kind (viewed s views count)) }
+    requires count_in { count ≤ max_entries }
+    requires bands_are { ((s : List ℕ) → bands ≡ band_count kind (viewed s views count)) }
     ensures { (s : List ℕ) → make_refusal result ≡ later_question kind (viewed s views count) sample_rate centres.now }
 {
     if !channel_found(views, count, kind) {
@@ -129,8 +129,8 @@ pub fn question(
     sample_rate: f32,
     centres: &[f32],
 ) -> MakeAnswer
-    requires fact_1 { count ≤ max_entries }
-    requires fact_2 { ((s : List ℕ) → bands ≡ band_count kind (viewed s views count)) }
+    requires count_in { count ≤ max_entries }
+    requires bands_are { ((s : List ℕ) → bands ≡ band_count kind (viewed s views count)) }
     ensures { make_refusal result ≡ table_question kind (viewed image.now views count) sample_rate centres.now }
 {
     if !sizes_ok(views, count) {

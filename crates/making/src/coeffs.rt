@@ -20,8 +20,8 @@ pub fn partial_coeff(s: &[u8], v: EntryView, c: u32, i: u32) -> f32
 
 // A band's coefficient stands after those of the partials.
 pub fn noise_coeff(s: &[u8], v: EntryView, c: u32, b: u32) -> f32
-    requires fact_1 { v.m_partials ≤ max_partials }
-    requires fact_2 { b < max_bands }
+    requires partials_in { v.m_partials ≤ max_partials }
+    requires band_in { b < max_bands }
     ensures { result ≡ noise_coeff (entry_at s.now v) c b }
 {
     if b < v.j_noise {

@@ -108,8 +108,8 @@ fn noise_at(s: &[u8], v: EntryView, kind: Kind, n: u32, y: u32) -> f32
 }
 
 pub fn noise(s: &[u8], views: [EntryView; 16], count: usize, kind: Kind, n: u32) -> [f32; 1024]
-    requires fact_1 { count ≤ max_entries }
-    requires fact_2 { all sizes_ok (viewed s.now views count) ≡ true }
+    requires count_in { count ≤ max_entries }
+    requires sizes_in { all sizes_ok (viewed s.now views count) ≡ true }
     ensures { result ≡ up_to (noise_place kind n (viewed s.now views count)) 1024 }
 {
     let mut out = [0.0; 1024];

@@ -18,8 +18,8 @@ pub struct Live {
 
 // Whether band b is not 0 in one of the first n channels of an entry.
 fn live_in(s: &[u8], v: EntryView, b: u32, n: u32) -> bool
-    requires fact_1 { v.m_partials ≤ max_partials }
-    requires fact_2 { b < max_bands }
+    requires partials_in { v.m_partials ≤ max_partials }
+    requires band_in { b < max_bands }
     ensures { result ≡ live_in (entry_at s.now v) b n }
 {
     let mut q = n;
@@ -33,9 +33,9 @@ fn live_in(s: &[u8], v: EntryView, b: u32, n: u32) -> bool
 }
 
 fn live_among(s: &[u8], views: [EntryView; 16], count: usize, n: u32, b: u32) -> bool
-    requires fact_1 { count ≤ max_entries }
-    requires fact_2 { all sizes_ok (viewed s.now views count) ≡ true }
-    requires fact_3 { b < max_bands }
+    requires count_in { count ≤ max_entries }
+    requires sizes_in { all sizes_ok (viewed s.now views count) ≡ true }
+    requires band_in { b < max_bands }
     ensures { result ≡ live_among (viewed s.now views count) n b }
 {
     let mut i = 0;
@@ -50,10 +50,10 @@ fn live_among(s: &[u8], views: [EntryView; 16], count: usize, n: u32, b: u32) ->
 }
 
 fn is_live(s: &[u8], views: [EntryView; 16], count: usize, kind: Kind, n: u32, b: u32) -> bool
-    requires fact_1 { count ≤ max_entries }
-    requires fact_2 { all sizes_ok (viewed s.now views count) ≡ true }
-    requires fact_3 { b < max_bands }
-    requires fact_4 { n ≡ channel_count kind (viewed s.now views count) }
+    requires count_in { count ≤ max_entries }
+    requires sizes_in { all sizes_ok (viewed s.now views count) ≡ true }
+    requires band_in { b < max_bands }
+    requires channels_are { n ≡ channel_count kind (viewed s.now views count) }
     ensures { result ≡ is_live kind (viewed s.now views count) b }
 {
     match kind {
@@ -64,8 +64,8 @@ fn is_live(s: &[u8], views: [EntryView; 16], count: usize, kind: Kind, n: u32, b
 
 // One band more, if it is live.
 fn add_live(live: Live, b: u32, is: bool) -> Live
-    requires fact_1 { live.count < max_bands }
-    requires fact_2 { b < max_bands }
+    requires room { live.count < max_bands }
+    requires band_in { b < max_bands }
     ensures { result ≡ add_live live b is }
 {
     if is {
@@ -89,10 +89,10 @@ pub fn live_bands(
     n: u32,
     j: u32,
 ) -> Live
-    requires fact_1 { count ≤ max_entries }
-    requires fact_2 { all sizes_ok (viewed s.now views count) ≡ true }
-    requires fact_3 { j ≤ max_bands }
-    requires fact_4 { n ≡ channel_count kind (viewed s.now views count) }
+    requires count_in { count ≤ max_entries }
+    requires sizes_in { all sizes_ok (viewed s.now views count) ≡ true }
+    requires bands_in { j ≤ max_bands }
+    requires channels_are { n ≡ channel_count kind (viewed s.now views count) }
     ensures { result ≡ live_of (live_bands kind (viewed s.now views count) j) }
 {
     let mut live = Live {

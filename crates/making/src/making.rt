@@ -81,10 +81,10 @@ fn fresh(
     sample_rate: f32,
     centres: &[f32],
 ) -> Voice
-    requires fact_1 { count ≤ max_entries }
-    requires fact_2 { all sizes_ok (viewed image.now views count) ≡ true }
-    requires fact_3 { j ≡ band_count kind (viewed image.now views count) }
-    requires fact_4 { length centres.now ≡ j }
+    requires count_in { count ≤ max_entries }
+    requires sizes_in { all sizes_ok (viewed image.now views count) ≡ true }
+    requires bands_are { j ≡ band_count kind (viewed image.now views count) }
+    requires centres_all { length centres.now ≡ j }
     ensures { result ≡ fresh_voice kind (viewed image.now views count) sample_rate centres.now }
 {
     let k = channel_count(views, count, kind);

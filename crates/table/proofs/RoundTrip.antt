@@ -5,7 +5,7 @@ use mathlib.Core.List.{List, [], ◌∷◌, ◌++◌}
 use mathlib.Core.Bool.{true}
 use native.Mathlib.Omega.{arith}
 use lib.ListN.{length, get_or, take, drop, length-drop, take-append-drop}
-use lib.Seq.{length-take-le, get_or-take, get_or-drop, get_or-append-add, take_at, drop_at, drop-cons, take_all}
+use lib.Seq.{length-take-le, get_or-take, get_or-drop, get_or-append-add, take_at as take_front, drop_at, drop-cons, take_all}
 use borrow.Author.Tests.{le-leb, eq-eqb}
 use Rattle.wire.specs.Parse.{ok}
 use Rattle.wire.specs.Cursor.{le16, take_at, u16, u32}
@@ -52,7 +52,7 @@ module _ (s : List ℕ) (t : CoeffTable) (e : ℕ) (w : Again s t e) where
       rw (w.bytes, k) (get_or-append-add (take 4 s) (1 ∷ 0 ∷ piece s 6 e) i 0)
 
   out-mark : take 4 out ≡ take 4 s
-  out-mark = rw w.bytes (take_at (take 4 s) (1 ∷ 0 ∷ piece s 6 e) 4 four)
+  out-mark = rw w.bytes (take_front (take 4 s) (1 ∷ 0 ∷ piece s 6 e) 4 four)
 
   out-version : le16 out 4 ≡ 1
   out-version =
@@ -113,7 +113,7 @@ module _ (s : List ℕ) (byte : Bytes s) (t : CoeffTable) (e : ℕ) (h : decode 
       rw (h, le-leb (length (encode t)) (length target) (omega arith)) refl
 
   pub target-front : take e (rewritten (decode s) target) ≡ encode t
-  target-front = rw stored (take_at (encode t) (drop (length (encode t)) target) e (decode-encode s byte t e h).1)
+  target-front = rw stored (take_front (encode t) (drop (length (encode t)) target) e (decode-encode s byte t e h).1)
 
   pub target-beyond : drop e (rewritten (decode s) target) ≡ drop e target
   target-beyond =

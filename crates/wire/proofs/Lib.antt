@@ -3,5 +3,3 @@ pub mod Utf8Examples
 pub mod Found
 pub mod Apart
 pub mod Many
-pub mod Held
-pub mod Method

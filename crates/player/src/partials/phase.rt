@@ -9,8 +9,8 @@ use crate::partials::floor::floor;
 
 // Most steps are small: the whole part is 0 or 1.
 pub fn advance(ph: f32, inc: f32) -> f32
-    requires fact_1 { phase_ok ph ≡ true }
-    requires fact_2 { Step inc }
+    requires phase_in { phase_ok ph ≡ true }
+    requires step_in { Step inc }
     ensures { result ≡ advance_of ph inc }
 {
     let x = ph + inc;

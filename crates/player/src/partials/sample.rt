@@ -29,8 +29,8 @@ fn blend_coeff<'a>(
     s: Sides,
     i: usize,
 ) -> f32
-    requires fact_1 { SidesIn max_entries s }
-    requires fact_2 { (k ≤ max_blended) × (i < max_partials) }
+    requires sides_in { SidesIn max_entries s }
+    requires places_in { (k ≤ max_blended) × (i < max_partials) }
     ensures { result ≡ blend_coeff (λ q. partial_row partials.now s q i) gains.now k }
 {
     let all = &partials[..];
@@ -53,8 +53,8 @@ fn partial_coeff<'a>(
     s: Sides,
     i: usize,
 ) -> f32
-    requires fact_1 { SidesIn max_entries s }
-    requires fact_2 { (k ≤ max_blended) × (i < max_partials) }
+    requires sides_in { SidesIn max_entries s }
+    requires places_in { (k ≤ max_blended) × (i < max_partials) }
     ensures { result ≡ sample_coeff blend k (λ q. partial_row partials.now s q i) gains.now }
 {
     if blend == 0 {
@@ -75,8 +75,8 @@ fn add_partial(
     gain: f32,
     p: f32,
 ) -> f32
-    requires fact_1 { Table wave.now }
-    requires fact_2 { Phase p }
+    requires table_is { Table wave.now }
+    requires phase_in { Phase p }
     ensures { result ≡ add_single y coeff mainlobe (nyquist_fade freq nyquist) gain p }
 {
     if coeff != 0.0 {

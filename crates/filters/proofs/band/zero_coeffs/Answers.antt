@@ -1,0 +1,8 @@
+-- `zero_coeffs` meets its contract.
+use Rattle.std.proofs.Common.{refl}
+use lib.Ieee.{of_bits, round}
+use Rattle.filters.proofs.band.zero_coeffs.Goals as goal
+
+pub returns : goal.returns
+unfolding of_bits round
+returns c = refl

@@ -1,0 +1,8 @@
+-- `pitch_ok` meets its contract.
+use lib.Ieee.{of_bits, round}
+use Rattle.voice.proofs.rules.pitch_ok.Goals as goal
+
+pub returns : goal.returns
+unfolding of_bits round
+returns c =
+    c.both.ensures
