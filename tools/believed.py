@@ -10,7 +10,7 @@ from pathlib import Path
 import callable as functions
 
 EDGE = r'[^\s(){}\[\],;.«»⌜⌝`]'
-USE = re.compile(r'^(?:ghost )?(?:pub )?use Rattle·(\w+?)(?:·specs\.specs|·proofs\.proofs|\.specs)\.([\w.]+)\.\{(.*)\};?$', re.M)
+USE = re.compile(r'^(?:ghost )?(?:pub )?use Rattle\.(\w+)\.(?:specs|proofs)\.([\w.]+)\.\{([^}]*)\};?$', re.M)
 # theorems in their own right
 ASIDE = {('claim', *name) for name in (('Claim', 'Claim'), ('Bench', 'Bench'), ('Quiet', 'GainsAside'), ('Quiet', 'PlanAside'),
                                        ('Quiet', 'GainsAsideThroughout'))}
@@ -20,12 +20,12 @@ WHOLE = {('float', 'Nearest')}  # files of which a law in its own right speaks: 
 def words(text):
     """The words of a text, but for fields and constructors, which follow a point; a `do` cites what binds its fields."""
     found = set(re.findall(rf'(?<![.·]){EDGE}+', text))
-    return found | ({'_>>=_', '_>>_'} if 'do' in found else set())
+    return found | ({'◌>>=◌', '◌>>◌'} if 'do' in found else set())
 
 
 def said(name):
-    """How a name is written where it is used: of an operator `_⊕_` what stands between."""
-    return name.strip('_') if name.startswith('_') and name.endswith('_') else name
+    """How a name is written where it is used: of an operator `◌⊕◌` what stands between."""
+    return name.strip('◌')
 
 
 def imports(text):

@@ -38,15 +38,14 @@ class Function:
         if self.answer and not any(map(speaks_of_answer, promised)):
             found.append('says nothing of its answer')
         for name in self.lent():
-            if not any(re.search(rf'(?<!\w){name}»?\s*\.exit\b', text) for text in promised):
+            if not any(re.search(rf'(?<![\w.]){name}\.new\b', text) for text in promised):
                 found.append(f'says nothing of `{name}` at the return')
         return found
 
 
 def speaks_of_answer(clause):
-    """Whether a clause `{ λ r. .. }` has its answer in what follows."""
-    m = re.match(r'\{\s*λ\s*(\w+)\s*\.', clause)
-    return bool(m) and m[1] != '_' and re.search(rf'(?<![\w.-]){m[1]}(?![\w-])', clause[m.end():]) is not None
+    """Whether a clause `{ .. }` has its answer, `result`, in it."""
+    return re.search(r'(?<![\w.-])result(?![\w-])', clause) is not None
 
 
 def plain(file):

@@ -1,6 +1,6 @@
 // The library from Rust: reads a table, makes a voice of it, plays a block, goes on at another sample rate, plays softer by a plan of quiet
 // windows, prints the first samples, and makes one table of two.
-// Build it beside the static library (`rt staticlib sounder`):
+// Build it beside the static library (`tools/staticlib`):
 //   rustc -O --edition 2024 -C link-arg=target/staticlib/libsounder.a -o target/tone examples/rust/tone.rs
 // include/sounder.h says what each function promises; the declarations below are the same.
 
