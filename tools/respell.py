@@ -5,18 +5,18 @@ usage: tools/respell.py     at the top of the checkout, once, after the kit's po
 
 Every name of specs/ and proofs/ in lower camel case, as one of two words, is written with an underscore wherever it stands:
 in the definitions, laws, contracts, edits that must fail, documents and tools. Nothing else is touched: functions of src/ are in snake case
-as they are, and strings and data hold no such name. Of names that would fall together the lemma gets `_lem`.
+as they are, and strings and data hold no such name. A lemma that would fall together with a definition keeps its own name.
 """
 import glob
 import os
 import re
 
-CAMEL = re.compile(r"^[a-z].*[a-z0-9][A-Z]")
+CAMEL = re.compile(r"^[a-z](.*[a-z0-9])?[A-Z]")
 WORD = re.compile(r"[A-Za-z_][A-Za-z0-9_'-]*")
 # the tail of a number in base 16, a unit, and the RFC's word for a range of octets
 NONE = re.compile(r"^(x[0-9A-F_]+|dB|xLOW|HIGH)$")
-# a lemma whose name is now a definition's, and the crate that it is of
-FALLS_TOGETHER = {"size_in": "merging"}
+# a lemma whose name, as port.py leaves it, would fall together with a definition's: the definition, its crate and the lemma's own name
+FALLS_TOGETHER = {"size_in": ("sizeIn", "merging", "size-in")}
 # the library's own word in a lemma's name
 WORDS = {"getD": "get_or"}
 
@@ -57,10 +57,13 @@ def main():
         name = found.group(0)
         return table.get(name) or (snake(name) if snake(name) in words else name)
 
-    for name, crate in FALLS_TOGETHER.items():
-        for path in files(f"crates/{crate}/proofs/*.antt", f"crates/{crate}/must-fail*/*.edit"):
+    for name, (definition, crate, own) in FALLS_TOGETHER.items():
+        laws = list(files(f"crates/{crate}/proofs/*.antt", f"crates/{crate}/must-fail*/*.edit"))
+        if not any(definition in open(path, encoding="utf-8").read() for path in laws):
+            continue
+        for path in laws:
             old = open(path, encoding="utf-8").read()
-            new = re.sub(rf"(?<![\w.'-]){name}(?![\w'-])", name + "_lem", old)
+            new = re.sub(rf"(?<![\w.'-]){name}(?![\w'-])", own, old)
             if new != old:
                 open(path, "w", encoding="utf-8").write(new)
     sources = ("crates/*/specs/**/*.antt", "crates/*/proofs/**/*.antt", "crates/*/src/**/*.rt", "crates/*/must-fail*/*.edit")

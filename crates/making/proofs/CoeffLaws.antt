@@ -10,7 +10,7 @@ use borrow.Author.Tests.{leb-true, lt-ltb, le-ltb, le-leb, lt-leb}
 use Rattle.table.specs.declared.entry.EntryView.{EntryView}
 use Rattle.table.specs.declared.error.CoeffTableCodecError.{CoeffTableCodecError}
 use Rattle.table.specs.Answer.{refusal_of}
-use Rattle.table.specs.Table.{PitchEntry, mPartials, coefficient_at}
+use Rattle.table.specs.Table.{PitchEntry, m_partials, coefficient_at}
 use Rattle.table.specs.View.{entry_at}
 use Rattle.table.proofs.WordLaws.{length-words}
 use Rattle.float.specs.F32.{quotient}
@@ -18,7 +18,7 @@ use Rattle.making.specs.Making.{f32, sizes_ok, partial_coeff, noise_coeff, is_no
 use Rattle.voice.proofs.Loops.{both_true}
 
 -- M is what the view says
-pub partials-are : (s : List ℕ) (v : EntryView) → mPartials (entry_at s v) ≡ v.m_partials
+pub partials-are : (s : List ℕ) (v : EntryView) → m_partials (entry_at s v) ≡ v.m_partials
 partials-are s v = length-words s v.partials_at v.m_partials
 
 pub partial_there : (s : List ℕ) (v : EntryView) (c i : ℕ) → i < v.m_partials → partial_coeff (entry_at s v) c i ≡ f32 (coefficient_at (entry_at s v) c i)
@@ -36,8 +36,8 @@ noise-lacking s v c b h = rw (le-ltb b v.j_noise h) refl
 -- question 8 of one entry
 pub sizes-are : (s : List ℕ) (v : EntryView) → sizes_ok (entry_at s v) ≡ true → (v.m_partials ≤ 32) × (v.j_noise ≤ 16)
 sizes-are s v h =
-    let p = both_true (leb (mPartials (entry_at s v)) 32) (leb v.j_noise 16) h in
-    (rw (partials-are s v) at (leb-true (mPartials (entry_at s v)) 32 p.0), leb-true v.j_noise 16 p.1)
+    let p = both_true (leb (m_partials (entry_at s v)) 32) (leb v.j_noise 16) h in
+    (rw (partials-are s v) at (leb-true (m_partials (entry_at s v)) 32 p.0), leb-true v.j_noise 16 p.1)
 
 pub size-yes : (s : List ℕ) (v : EntryView) → v.m_partials ≤ 32 → leb v.j_noise 16 ≡ sizes_ok (entry_at s v)
 size-yes s v h = rw (partials-are s v, le-leb v.m_partials 32 h) refl
@@ -79,7 +79,7 @@ module _ (e : PitchEntry) (b n q : ℕ) (so : live_in e b q ≡ live_in e b n) (
   unfolding live_in
   live-miss t = down-miss (live_in e b) (λ q. is_nonzero (noise_coeff e q b)) (λ q. true) (λ q. or-pick (is_nonzero (noise_coeff e q b)) (live_in e b q)) n q so h t
 
-pub reach-next : (e : PitchEntry) (q : ℕ) → reach_in e (q + 1) ≡ max (reach_in e q) (partial_reach e q (mPartials e))
+pub reach-next : (e : PitchEntry) (q : ℕ) → reach_in e (q + 1) ≡ max (reach_in e q) (partial_reach e q (m_partials e))
 unfolding reach_in
 reach-next e q = rw add-one refl
 

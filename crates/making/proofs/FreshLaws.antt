@@ -16,7 +16,7 @@ use lib.Ieee.Bits.{is_true}
 use Rattle.float.proofs.Finite.{shown}
 use Rattle.float.proofs.Compare.{finite-not-lt, lt-le}
 use Rattle.table.specs.declared.desk.Kind.{Kind}
-use Rattle.table.specs.Table.{PitchEntry, mPartials, has_channel, metadata_value}
+use Rattle.table.specs.Table.{PitchEntry, m_partials, has_channel, metadata_value}
 use Rattle.table.specs.Decode.{decode, entries_of}
 use Rattle.table.specs.Desk.{band_count}
 use Rattle.float.specs.F32.{quotient}
@@ -174,15 +174,15 @@ reach_few e c (suc n) = go (is_nonzero (partial_coeff e c n)) (reach_few e c n)
     go true h = omega arith
     go false h = omega arith
 
-reach-in-few : (e : PitchEntry) (n : ℕ) → reach_in e n ≤ mPartials e
+reach-in-few : (e : PitchEntry) (n : ℕ) → reach_in e n ≤ m_partials e
 unfolding reach_in
 reach-in-few e zero = omega arith
-reach-in-few e (suc n) = let a = reach-in-few e n in let b = reach_few e n (mPartials e) in omega arith
+reach-in-few e (suc n) = let a = reach-in-few e n in let b = reach_few e n (m_partials e) in omega arith
 
-phases-for-few : (k : Kind) (n : ℕ) (e : PitchEntry) → phases_for k n e ≤ mPartials e
+phases-for-few : (k : Kind) (n : ℕ) (e : PitchEntry) → phases_for k n e ≤ m_partials e
 phases-for-few (Kind.Single c) n e = go (has_channel e c)
   where
-    go : (b : Bool) → cond b (mPartials e) 0 ≤ mPartials e
+    go : (b : Bool) → cond b (m_partials e) 0 ≤ m_partials e
     go true = omega arith
     go false = omega arith
 phases-for-few Kind.Blend n e = reach-in-few e n
@@ -192,7 +192,7 @@ unfolding all most
 phases-few k n [] h = omega arith
 phases-few k n (e ∷ es) h =
     let p = both_true (sizes_ok e) (all sizes_ok es) h in
-    let m : mPartials e ≤ 32 = leb-true _ _ (both_true (leb (mPartials e) 32) (leb e.jNoise 16) p.0).0 in
+    let m : m_partials e ≤ 32 = leb-true _ _ (both_true (leb (m_partials e) 32) (leb e.j_noise 16) p.0).0 in
     let a = phases-for-few k n e in
     let b = phases-few k n es p.1 in
     omega arith

@@ -6,7 +6,7 @@ use Rattle.std.specs.Float.Ieee.{of_bits, lt, ne}
 use Rattle.std.specs.Float.Ieee.Scale.{finite}
 use Rattle.wire.specs.Parse.{Refusal, refusal, Parsed, ok, refused}
 use Rattle.table.specs.declared.desk.Kind.{Kind}
-use Rattle.table.specs.Table.{PitchEntry, CoeffTable, mPartials, has_channel, coefficient_at, metadata_value}
+use Rattle.table.specs.Table.{PitchEntry, CoeffTable, m_partials, has_channel, coefficient_at, metadata_value}
 use Rattle.table.specs.Decode.{decode, entries_of}
 use Rattle.table.specs.Desk.{band_count}
 use Rattle.float.specs.F32.{quotient}
@@ -51,10 +51,10 @@ voice_entries k es = gathered k [] es
 
 -- ---- coefficients: one that an entry lacks counts 0
 abbrev pub partial_coeff : PitchEntry → ℕ → ℕ → Float
-partial_coeff e c i = cond (ltb i (mPartials e)) (f32 (coefficient_at e c i)) (quotient 0 1)
+partial_coeff e c i = cond (ltb i (m_partials e)) (f32 (coefficient_at e c i)) (quotient 0 1)
 
 abbrev pub noise_coeff : PitchEntry → ℕ → ℕ → Float
-noise_coeff e c b = cond (ltb b e.jNoise) (f32 (coefficient_at e c (mPartials e + b))) (quotient 0 1)
+noise_coeff e c b = cond (ltb b e.j_noise) (f32 (coefficient_at e c (m_partials e + b))) (quotient 0 1)
 
 abbrev pub is_nonzero : Float → Bool
 is_nonzero x = ne x (quotient 0 1)
@@ -66,7 +66,7 @@ most count [] = 0
 most count (e ∷ es) = max (count e) (most count es)
 
 abbrev pub most_channels : List PitchEntry → ℕ
-most_channels es = most (λ e. e.kChannels) es
+most_channels es = most (λ e. e.k_channels) es
 
 -- the channels that a voice sounds: one of a single voice; of a blend all, at most 4
 abbrev pub channel_count : Kind → List PitchEntry → ℕ
@@ -81,11 +81,11 @@ partial_reach e c (suc n) = cond (is_nonzero (partial_coeff e c n)) (suc n) (par
 -- the highest reach in the first n channels
 unfoldable pub reach_in : PitchEntry → ℕ → ℕ
 reach_in e zero = 0
-reach_in e (suc n) = max (reach_in e n) (partial_reach e n (mPartials e))
+reach_in e (suc n) = max (reach_in e n) (partial_reach e n (m_partials e))
 
 -- the phases that an entry needs: all its partials in a single voice that keeps it; in a blend of n channels, as far as they reach
 abbrev pub phases_for : Kind → ℕ → PitchEntry → ℕ
-phases_for (Kind.Single c) n e = cond (has_channel e c) (mPartials e) 0
+phases_for (Kind.Single c) n e = cond (has_channel e c) (m_partials e) 0
 phases_for Kind.Blend n e = reach_in e n
 
 abbrev pub phase_count : Kind → ℕ → List PitchEntry → ℕ
@@ -221,7 +221,7 @@ blank_voice =
 -- ---- questions 8 to 12
 -- 8: at most 16 entries, M 32, j 16 in each?
 abbrev pub sizes_ok : PitchEntry → Bool
-sizes_ok e = leb (mPartials e) max_partials && leb e.jNoise max_bands
+sizes_ok e = leb (m_partials e) max_partials && leb e.j_noise max_bands
 
 unfoldable pub limits_ok : List PitchEntry → Bool
 limits_ok es = leb (length es) max_entries && all sizes_ok es

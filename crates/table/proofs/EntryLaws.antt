@@ -92,7 +92,7 @@ module _ (i : ℕ) (s : List ℕ) (at : ℕ) where
 
       module _ (ms : List Pair) (end : ℕ) (e₃ : metadata s c₂ ≡ ok ms end)
           (m n : ℕ) (lx : length x.words ≡ m) (ly : length y.words ≡ n) (b : Bool) (t : eqb (y.first * (m + y.second)) n ≡ b) where
-        pub entry-then : entry i s at ≡ then (asked b end (refusal 6 i 0)) (λ _ e. ok (record { f0_hz = x.first; stretch = x.second; partial_freqs = x.words; kChannels = y.first; jNoise = y.second; coefficients = y.words; metadata = ms }) e)
+        pub entry-then : entry i s at ≡ then (asked b end (refusal 6 i 0)) (λ _ e. ok (record { f0_hz = x.first; stretch = x.second; partial_freqs = x.words; k_channels = y.first; j_noise = y.second; coefficients = y.words; metadata = ms }) e)
         unfolding entry_by
         entry-then = entry-by i s at ∙ rw (e₁, e₂, e₃, lx, ly, t) refl
 

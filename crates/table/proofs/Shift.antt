@@ -146,7 +146,7 @@ module _ (s u : List ℕ) where
       shift-bind u32 _ shift-u32 λ q.
       shift-bind (pairs q) _ (shift-many (λ i. pair) (λ i. shift-pair) q 0) λ ms.
       shift-seq (require (eqb (k * (length fs + j)) (length cs)) (refusal 6 i 0)) _ (shift-ask (eqb (k * (length fs + j)) (length cs)) (refusal 6 i 0))
-      (shift-pure (record { f0_hz = f; stretch = st; partial_freqs = fs; kChannels = k; jNoise = j; coefficients = cs; metadata = ms }))
+      (shift-pure (record { f0_hz = f; stretch = st; partial_freqs = fs; k_channels = k; j_noise = j; coefficients = cs; metadata = ms }))
 
 -- an entry's index is told only in its refusal
 

@@ -88,7 +88,7 @@ pub record IsEntry (s : List ℕ) (at e : ℕ) (a : PitchEntry) : Type 0 where
   pub pairs : reads (pairs (view_of at a).pairs s (view_of at a).pairs_at) ≡ true
 
 abbrev entry_of : ℕ → ℕ → List ℕ → ℕ → ℕ → List ℕ → List Pair → PitchEntry
-entry_of f st fs k j cs ms = record { f0_hz = f; stretch = st; partial_freqs = fs; kChannels = k; jNoise = j; coefficients = cs; metadata = ms }
+entry_of f st fs k j cs ms = record { f0_hz = f; stretch = st; partial_freqs = fs; k_channels = k; j_noise = j; coefficients = cs; metadata = ms }
 
 entry-eq : (f st k j : ℕ) {fs cs fs' cs' : List ℕ} {ms ms' : List Pair} → fs ≡ fs' → cs ≡ cs' → ms ≡ ms' → entry_of f st fs k j cs ms ≡ entry_of f st fs' k j cs' ms'
 entry-eq f st k j h₁ h₂ h₃ = rw (h₁, h₂, h₃) refl

@@ -134,7 +134,7 @@ module _ (s : List ℕ) (byte : (i : ℕ) → get_or s i 0 < 256) where
       let v = spelled-many (λ i. pair) put_pair (λ i at e a. spelled-pair at e a) n 0 m₇ m₈ ms g₈ in
       let w = asked-ok (eqb (k * (length fs + j)) (length cs)) m₈ m₉ (refusal 6 i 0) x g₉ in
       let z : m₈ ≡ e = w.1 ∙ cc in
-      let q : record { f0_hz = f; stretch = st; partial_freqs = fs; kChannels = k; jNoise = j; coefficients = cs; metadata = ms } ≡ a = cc in
+      let q : record { f0_hz = f; stretch = st; partial_freqs = fs; k_channels = k; j_noise = j; coefficients = cs; metadata = ms } ≡ a = cc in
       rw (← q, ← z, many-length (λ i. pair) s n 0 m₇ m₈ ms g₈)
       (joined (spelled-u32 at f m₁ g₁) (joined (spelled-u32 m₁ st m₂ g₂) (joined (spelled-counted m₂ m₃ fs g₃) (joined (spelled-u32 m₃ k m₄ g₄)
       (joined (spelled-u32 m₄ j m₅ g₅) (joined (spelled-counted m₅ m₆ cs g₆) (joined (spelled-u32 m₆ n m₇ g₇) v)))))))

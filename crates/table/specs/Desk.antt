@@ -13,8 +13,8 @@ use Rattle.table.specs.Answer.{refusal_of}
 
 -- an entry's bands for a voice: a single voice of channel c has none from an entry without channel c, a blend has all
 abbrev pub bands_of : Kind → PitchEntry → ℕ
-bands_of (Kind.Single c) e = cond (has_channel e c) e.jNoise 0
-bands_of Kind.Blend e = e.jNoise
+bands_of (Kind.Single c) e = cond (has_channel e c) e.j_noise 0
+bands_of Kind.Blend e = e.j_noise
 
 -- a voice's j: the largest of them, 0 for none
 unfoldable pub band_count : Kind → List PitchEntry → ℕ

@@ -30,8 +30,8 @@ put_entry e =
     put_u32 e.f0_hz
     ++ (put_u32 e.stretch
     ++ (put_counted e.partial_freqs
-    ++ (put_u32 e.kChannels
-    ++ (put_u32 e.jNoise
+    ++ (put_u32 e.k_channels
+    ++ (put_u32 e.j_noise
     ++ (put_counted e.coefficients
     ++ (put_u32 (length e.metadata)
     ++ put_all put_pair e.metadata))))))

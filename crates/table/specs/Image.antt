@@ -41,7 +41,7 @@ entry i = do
   q ← u32
   ms ← pairs q
   require (eqb (k * (length fs + j)) (length cs)) (refusal 6 i 0)
-  pure (record { f0_hz = f; stretch = st; partial_freqs = fs; kChannels = k; jNoise = j; coefficients = cs; metadata = ms })
+  pure (record { f0_hz = f; stretch = st; partial_freqs = fs; k_channels = k; j_noise = j; coefficients = cs; metadata = ms })
 
 abbrev pub entries : ℕ → Parser (List PitchEntry)
 entries n = many entry 0 n

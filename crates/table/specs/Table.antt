@@ -14,8 +14,8 @@ pub record PitchEntry : Type 0 where
   pub f0_hz : ℕ
   pub stretch : ℕ
   pub partial_freqs : List ℕ
-  pub kChannels : ℕ
-  pub jNoise : ℕ
+  pub k_channels : ℕ
+  pub j_noise : ℕ
   pub coefficients : List ℕ
   pub metadata : List Pair
 
@@ -25,15 +25,15 @@ pub record CoeffTable : Type 0 where
   pub entries : List PitchEntry
 
 -- M, and the width of a row
-abbrev pub mPartials : PitchEntry → ℕ
-mPartials e = length e.partial_freqs
+abbrev pub m_partials : PitchEntry → ℕ
+m_partials e = length e.partial_freqs
 
 abbrev pub width : PitchEntry → ℕ
-width e = mPartials e + e.jNoise
+width e = m_partials e + e.j_noise
 
 -- an entry has channel c where c is below its k
 abbrev pub has_channel : PitchEntry → ℕ → Bool
-has_channel e c = ltb c e.kChannels
+has_channel e c = ltb c e.k_channels
 
 -- the coefficient of channel c at a column of its row; 0 where the entry has no such channel or column
 unfoldable pub coefficient_at : PitchEntry → ℕ → ℕ → ℕ

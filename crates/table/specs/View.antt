@@ -4,7 +4,7 @@ use Rattle.wire.specs.Parse.{standing}
 use Rattle.wire.specs.Cursor.{le32}
 use Rattle.table.specs.declared.entry.EntryView.{EntryView}
 use Rattle.table.specs.declared.entry.EntryRead.{EntryRead}
-use Rattle.table.specs.Table.{Pair, PitchEntry, mPartials}
+use Rattle.table.specs.Table.{Pair, PitchEntry, m_partials}
 use Rattle.table.specs.Size.{entry_size}
 use Rattle.table.specs.Image.{pair}
 
@@ -23,8 +23,8 @@ entry_at s v = record {
   f0_hz = v.f0_hz;
   stretch = v.stretch;
   partial_freqs = word_list s v.partials_at v.m_partials;
-  kChannels = v.k_channels;
-  jNoise = v.j_noise;
+  k_channels = v.k_channels;
+  j_noise = v.j_noise;
   coefficients = word_list s v.coefficients_at v.coefficients;
   metadata = pair_list v.pairs s v.pairs_at;
 }
@@ -34,14 +34,14 @@ abbrev pub view_of : ℕ → PitchEntry → EntryView
 view_of at e = record {
   f0_hz = e.f0_hz;
   stretch = e.stretch;
-  m_partials = mPartials e;
-  k_channels = e.kChannels;
-  j_noise = e.jNoise;
+  m_partials = m_partials e;
+  k_channels = e.k_channels;
+  j_noise = e.j_noise;
   coefficients = length e.coefficients;
   pairs = length e.metadata;
   partials_at = at + 12;
-  coefficients_at = at + 24 + 4 * mPartials e;
-  pairs_at = at + 28 + 4 * mPartials e + 4 * length e.coefficients;
+  coefficients_at = at + 24 + 4 * m_partials e;
+  pairs_at = at + 28 + 4 * m_partials e + 4 * length e.coefficients;
   end = at + entry_size e;
 }
 

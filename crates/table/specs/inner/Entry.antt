@@ -44,8 +44,8 @@ entry_by i = do
     f0_hz = x.first;
     stretch = x.second;
     partial_freqs = x.words;
-    kChannels = y.first;
-    jNoise = y.second;
+    k_channels = y.first;
+    j_noise = y.second;
     coefficients = y.words;
     metadata = ms;
   })
