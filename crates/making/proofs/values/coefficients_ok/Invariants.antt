@@ -1,0 +1,19 @@
+use mathlib.Core.Path.{◌≡◌, refl, sym, ap, ◌∙◌}
+use Prim.Native.Nat.{ℕ, ◌≤◌, ◌-◌}
+use native.Mathlib.Omega.{arith}
+use lib.ListN.{drop}
+use borrow.Author.Tests.{not-true, not-false}
+use lib.Ieee.Scale.{finite}
+use Rattle.table.specs.View.{entry_at}
+use Rattle.table.proofs.WordLaws.{length-words}
+use Rattle.making.specs.Making.{f32, all}
+use Rattle.making.proofs.MakeLists.{all-drop-go, all-drop-no, all-drop-end}
+use borrow.Author.Rules.{rules}
+use Rattle.making.proofs.values.coefficients_ok.Given as goal
+
+-- those before x are finite
+abbrev pub invariant-loop-x : goal.invariant-loop-x
+invariant-loop-x l = (l.x ≤ l.n) × (all (λ b. finite (f32 b)) (drop l.x (entry_at l.s l.v).coefficients) ≡ all (λ b. finite (f32 b)) (entry_at l.s l.v).coefficients)
+
+abbrev pub decreases-loop-x : goal.decreases-loop-x
+decreases-loop-x l = l.n - l.x

@@ -1,0 +1,25 @@
+use lib.Ieee.{Float}
+use mathlib.Core.List.{List, ◌++◌}
+use Prim.Native.Nat.{ℕ, ◌-◌, ◌+◌, ◌≤◌, ◌<◌, ◌*◌}
+use mathlib.Core.Path.{◌≡◌, sym, ◌∙◌}
+use native.Mathlib.Omega.{arith}
+use lib.ListN.{length, take, drop, length-take, length-drop}
+use lib.Seq.{length-take-le}
+use Rattle.voice.specs.Lists.{join_to}
+use Rattle.voice.specs.Input.{Call, call, frequency_at, gains_at}
+use Rattle.voice.specs.Voice.{voice_of, state_of}
+use Rattle.player.specs.Block.{channel_out, block_out}
+use Rattle.voice.specs.declared.voice.Voice.{Voice}
+use Rattle.voice.proofs.Loops.{join_to-again, join_to-full, behind, behind-at, behind-sized, behind-first, behind-last, row-end, small_product}
+use Rattle.player.proofs.SoundLaws.{length-channel}
+use borrow.Author.Rules.{rules}
+use Rattle.player.proofs.block.block_of.Given as goal
+
+-- the channels behind the first are written: at its place is what was there
+abbrev pub invariant-loop-ch : goal.invariant-loop-ch
+invariant-loop-ch l =
+    (1 ≤ l.ch) × (l.ch ≤ l.b.channels) × (length l.out ≡ l.b.channels * l.b.samples)
+    × (l.out ≡ join_to (behind (take l.b.samples l.initial.out) (parts (voice_of l.set l.lists l.partials l.noise (state_of l.phases l.memories l.rng)) (call l.b l.freq l.g0 l.g1 l.g2 l.g3))) l.ch ++ drop (l.ch * l.b.samples) l.initial.out)
+
+abbrev pub decreases-loop-ch : goal.decreases-loop-ch
+decreases-loop-ch l = l.b.channels - l.ch

@@ -1,0 +1,17 @@
+use mathlib.Core.Path.{◌≡◌, refl}
+use native.Mathlib.Omega.{arith}
+use Prim.Native.Nat.{◌-◌, ◌≤◌}
+use lib.ListN.{length, get_or, length-set}
+use Rattle.voice.specs.Lists.{steps}
+use Rattle.voice.specs.Voice.{with_memory}
+use Rattle.player.specs.inner.Columns.{state_of_columns, scattered}
+use Rattle.voice.proofs.Loops.{steps-again, steps-full}
+use borrow.Author.Rules.{rules}
+use Rattle.player.proofs.noise.bands.scatter_memories.Given as goal
+
+abbrev pub invariant-loop-l : goal.invariant-loop-l
+invariant-loop-l l =
+    (l.l ≤ l.n) × (length l.s ≡ 32) × (l.s ≡ scattered l.live l.z1 l.z2 l.initial.s l.l)
+
+abbrev pub decreases-loop-l : goal.decreases-loop-l
+decreases-loop-l l = l.n - l.l

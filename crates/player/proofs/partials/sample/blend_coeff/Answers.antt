@@ -1,0 +1,25 @@
+-- `blend_coeff` meets its contract.
+use mathlib.Core.Path.{◌≡◌, refl}
+use Prim.Native.Nat.{◌-◌, ◌≤◌}
+use native.Mathlib.Omega.{arith}
+use lib.Ieee.{of_bits, round}
+use Rattle.voice.specs.Lists.{steps}
+use Rattle.player.specs.Sound.{blend_coeff, partial_row}
+use Rattle.voice.proofs.Loops.{steps-again, steps-full}
+use borrow.Author.Rules.{rules}
+use Rattle.player.proofs.partials.sample.blend_coeff.Goals as goal
+
+pub loop-q-init : goal.loop-q-init
+unfolding blend_coeff steps of_bits round
+loop-q-init c =
+    (omega arith, refl)
+
+pub loop-q-preserved : goal.loop-q-preserved
+unfolding blend_coeff
+loop-q-preserved c =
+    (omega arith, rw c.place_between.ensures (steps-again _ _ _ c.loop-q.q c.loop-q.invariant.1))
+
+pub returns : goal.returns
+unfolding blend_coeff
+returns c =
+    steps-full _ _ _ c.loop-q.q _ (omega arith) c.loop-q.invariant.1

@@ -1,0 +1,23 @@
+-- `fades_of` meets its contract.
+use mathlib.Core.Path.{◌≡◌}
+use Prim.Native.Nat.{◌-◌, ◌≤◌}
+use native.Mathlib.Omega.{arith}
+use lib.ListN.{length, get_or, length-set}
+use lib.Ieee.{nan}
+use Rattle.player.specs.inner.Columns.{Filled}
+use Rattle.player.proofs.ColumnLaws.{filled_none, filled-again, filled-full}
+use Rattle.player.specs.Fade.{nyquist_fade}
+use borrow.Author.Rules.{rules}
+use Rattle.player.proofs.tuning.fades_of.Goals as goal
+
+pub loop-i-init : goal.loop-i-init
+loop-i-init c =
+    (omega arith, search rules, filled_none _ _)
+
+pub loop-i-preserved : goal.loop-i-preserved
+loop-i-preserved c =
+    (omega arith, simp length-set c.loop-i.invariant.1, filled-again _ c.loop-i.fs c.loop-i.i _ (omega arith) c.nyquist_fade.ensures c.loop-i.invariant.2)
+
+pub returns : goal.returns
+returns c =
+    filled-full _ c.loop-i.fs c.loop-i.i _ (omega arith) c.loop-i.invariant.2
