@@ -1,14 +1,8 @@
-use mathlib.Core.Path.{◌≡◌, refl, sym, ◌∙◌}
-use Prim.Native.Nat.{◌≤◌, ◌-◌}
+use mathlib.Core.Path.{refl, sym, ◌∙◌}
 use native.Mathlib.Omega.{arith}
-use lib.ListN.{length}
-use lib.ListN.{drop}
-use borrow.Author.Tests.{not-true, not-false}
 use lib.Ieee.{nan}
 use lib.Ieee.Scale.{finite}
-use Rattle.making.specs.Making.{all}
 use Rattle.making.proofs.MakeLists.{all-drop-go, all-drop-no, all-drop-end}
-use borrow.Author.Rules.{rules}
 use Rattle.making.proofs.answer.all_finite.Goals as goal
 
 pub loop-i-init : goal.loop-i-init
@@ -17,11 +11,11 @@ loop-i-init c =
 
 pub returns-then-not-is_finite : goal.returns-then-not-is_finite
 returns-then-not-is_finite c =
-    sym (sym c.loop-i.invariant.1 ∙ all-drop-no finite nan c.args.centres.now c.loop-i.i c.loop-i-test.true (sym c.is_finite.ensures ∙ not-true _ c.if-not-is_finite.true))
+    sym (sym c.loop-i.invariant.1 ∙ all-drop-no finite nan c.args.centres.now c.loop-i.i c.loop-i-test.true (sym c.is_finite.ensures ∙ c.if-not-is_finite.true))
 
 pub loop-i-preserved : goal.loop-i-preserved
 loop-i-preserved c =
-    (omega arith, sym (all-drop-go finite nan c.args.centres.now c.loop-i.i c.loop-i-test.true (sym c.is_finite.ensures ∙ not-false _ c.if-not-is_finite.false)) ∙ c.loop-i.invariant.1)
+    (omega arith, sym (all-drop-go finite nan c.args.centres.now c.loop-i.i c.loop-i-test.true (sym c.is_finite.ensures ∙ c.if-not-is_finite.false)) ∙ c.loop-i.invariant.1)
 
 pub returns : goal.returns
 returns c =

@@ -1,14 +1,9 @@
-use mathlib.Core.Path.{◌≡◌, refl, sym, ◌∙◌}
+use mathlib.Core.Path.{◌≡◌}
 use Prim.Native.Nat.{◌≤◌, ◌-◌}
-use native.Mathlib.Omega.{arith}
 use lib.ListN.{length}
 use lib.ListN.{drop}
-use borrow.Author.Tests.{not-true, not-false}
-use lib.Ieee.{nan}
 use lib.Ieee.Scale.{finite}
 use Rattle.making.specs.Making.{all}
-use Rattle.making.proofs.MakeLists.{all-drop-go, all-drop-no, all-drop-end}
-use borrow.Author.Rules.{rules}
 use Rattle.making.proofs.answer.all_finite.Given as goal
 
 abbrev pub invariant-loop-i : goal.invariant-loop-i

@@ -1,13 +1,10 @@
-use mathlib.Core.Path.{◌≡◌, refl, sym, ◌∙◌}
+use mathlib.Core.Path.{◌≡◌}
 use Prim.Native.Nat.{ℕ, ◌≤◌, ◌-◌}
-use native.Mathlib.Omega.{arith}
-use lib.ListN.{length}
 use mathlib.Core.List.{List}
 use Rattle.making.specs.inner.Views.{viewed}
 use Rattle.table.specs.Table.{has_channel}
 use Rattle.making.specs.Making.{any}
-use Rattle.making.proofs.ViewLaws.{rest, any-go, any-yes, any-end}
-use borrow.Author.Rules.{rules}
+use Rattle.making.proofs.ViewLaws.{rest}
 use Rattle.making.proofs.answer.any_channel.Given as goal
 
 abbrev pub invariant-loop-i : goal.invariant-loop-i

@@ -1,6 +1,5 @@
 use mathlib.Core.Path.{refl}
 use borrow.Author.Tests.{eq-eqb, ne_eqb}
-use borrow.Author.Rules.{rules}
 use Rattle.making.proofs.answer.centres_ok.Goals as goal
 
 pub returns-then-centres-bands : goal.returns-then-centres-bands

@@ -1,6 +1,5 @@
 use mathlib.Core.Path.{refl}
 use Rattle.making.proofs.CoeffLaws.{refused-number}
-use borrow.Author.Rules.{rules}
 use Rattle.making.proofs.answer.is_done.Goals as goal
 
 pub returns-in-Done : goal.returns-in-Done

@@ -1,5 +1,4 @@
 use mathlib.Core.Path.{refl}
-use borrow.Author.Rules.{rules}
 use Rattle.making.proofs.coeffs.gain_of.Goals as goal
 
 pub returns : goal.returns

@@ -1,6 +1,5 @@
 use mathlib.Core.Path.{refl}
 use lib.Ieee.{of_bits, round}
-use borrow.Author.Rules.{rules}
 use Rattle.making.proofs.coeffs.gain_or_1.Goals as goal
 
 pub returns-in-Bits : goal.returns-in-Bits

@@ -1,7 +1,6 @@
 use mathlib.Core.Path.{sym, ◌∙◌}
 use lib.Ieee.{of_bits, round}
 use Rattle.making.proofs.CoeffLaws.{noise-there, noise-lacking}
-use borrow.Author.Rules.{rules}
 use Rattle.making.proofs.coeffs.noise_coeff.Goals as goal
 
 pub returns-then-b-v : goal.returns-then-b-v

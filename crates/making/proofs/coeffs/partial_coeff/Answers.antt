@@ -1,7 +1,6 @@
 use mathlib.Core.Path.{sym, ◌∙◌}
 use lib.Ieee.{of_bits, round}
 use Rattle.making.proofs.CoeffLaws.{partial_there, partial-lacking}
-use borrow.Author.Rules.{rules}
 use Rattle.making.proofs.coeffs.partial_coeff.Goals as goal
 
 pub returns-then-i-v : goal.returns-then-i-v

@@ -1,13 +1,10 @@
-use lib.ListN.{length}
 use mathlib.Core.Path.{◌≡◌}
 use Prim.Native.Nat.{ℕ, ◌≤◌, ◌-◌, max}
 use mathlib.Core.List.{List}
-use native.Mathlib.Omega.{arith}
 use Rattle.table.specs.Desk.{bands_of, band_count}
 use Rattle.making.specs.Making.{most}
 use Rattle.making.specs.inner.Views.{viewed}
-use Rattle.making.proofs.ViewLaws.{rest, most-go, most-end, most-bands}
-use borrow.Author.Rules.{rules}
+use Rattle.making.proofs.ViewLaws.{rest}
 use Rattle.making.proofs.counts.band_count.Given as goal
 
 abbrev pub invariant-loop-i : goal.invariant-loop-i

@@ -1,6 +1,5 @@
 use mathlib.Core.Path.{refl}
 use native.Mathlib.Omega.{arith}
-use borrow.Author.Rules.{rules}
 use Rattle.making.proofs.counts.channel_count.Goals as goal
 
 pub returns-in-Single : goal.returns-in-Single

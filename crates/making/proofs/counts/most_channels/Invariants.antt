@@ -1,12 +1,9 @@
-use lib.ListN.{length}
 use mathlib.Core.Path.{◌≡◌}
 use Prim.Native.Nat.{ℕ, ◌≤◌, ◌-◌, max}
 use mathlib.Core.List.{List}
-use native.Mathlib.Omega.{arith}
 use Rattle.making.specs.Making.{most_channels}
 use Rattle.making.specs.inner.Views.{viewed}
-use Rattle.making.proofs.ViewLaws.{rest, most-go, most-end}
-use borrow.Author.Rules.{rules}
+use Rattle.making.proofs.ViewLaws.{rest}
 use Rattle.making.proofs.counts.most_channels.Given as goal
 
 abbrev pub invariant-loop-i : goal.invariant-loop-i

@@ -1,10 +1,7 @@
 use mathlib.Core.Path.{◌≡◌}
-use Prim.Native.Nat.{◌≤◌, ◌-◌, max}
 use native.Mathlib.Omega.{arith}
 use lib.ListN.{length}
-use Rattle.making.specs.inner.Views.{viewed}
-use Rattle.making.specs.Making.{phase_count}
-use Rattle.making.proofs.ViewLaws.{rest, most-go, most-end}
+use Rattle.making.proofs.ViewLaws.{most-go, most-end}
 use borrow.Author.Rules.{rules}
 use Rattle.making.proofs.counts.phase_count.Goals as goal
 
@@ -14,9 +11,9 @@ loop-i-init c =
 
 pub loop-i-preserved : goal.loop-i-preserved
 loop-i-preserved c =
-    let len : length c.args.t2 ≡ 16 = search rules in
-    (omega arith, rw (c.larger-best.ensures, c.phases_for.ensures) (most-go c.args.s.now c.args.t2 c.loop-i.i c.args.count (omega arith) c.loop-i-test.true _ c.loop-i.best _ c.loop-i.invariant.1))
+    let len : length c.args.views ≡ 16 = search rules in
+    (omega arith, rw (c.larger-best.ensures, c.phases_for.ensures) (most-go c.args.s.now c.args.views c.loop-i.i c.args.count (omega arith) c.loop-i-test.true _ c.loop-i.best _ c.loop-i.invariant.1))
 
 pub returns : goal.returns
 returns c =
-    most-end c.args.s.now c.args.t2 c.loop-i.i c.args.count c.loop-i-test.false _ c.loop-i.best _ c.loop-i.invariant.1
+    most-end c.args.s.now c.args.views c.loop-i.i c.args.count c.loop-i-test.false _ c.loop-i.best _ c.loop-i.invariant.1

@@ -1,11 +1,8 @@
 use mathlib.Core.Path.{◌≡◌}
 use Prim.Native.Nat.{◌≤◌, ◌-◌, max}
-use native.Mathlib.Omega.{arith}
-use lib.ListN.{length}
 use Rattle.making.specs.inner.Views.{viewed}
 use Rattle.making.specs.Making.{phase_count}
-use Rattle.making.proofs.ViewLaws.{rest, most-go, most-end}
-use borrow.Author.Rules.{rules}
+use Rattle.making.proofs.ViewLaws.{rest}
 use Rattle.making.proofs.counts.phase_count.Given as goal
 
 abbrev pub invariant-loop-i : goal.invariant-loop-i

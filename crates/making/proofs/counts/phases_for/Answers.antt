@@ -1,6 +1,5 @@
 use mathlib.Core.Path.{refl, sym, ◌∙◌}
 use Rattle.making.proofs.CoeffLaws.{partials-are}
-use borrow.Author.Rules.{rules}
 use Rattle.making.proofs.counts.phases_for.Goals as goal
 
 pub returns-then-has_channel : goal.returns-then-has_channel

@@ -1,10 +1,7 @@
 use mathlib.Core.Path.{◌≡◌, refl, ◌∙◌}
-use Prim.Native.Nat.{◌≤◌, ◌-◌}
 use native.Mathlib.Omega.{arith}
-use Rattle.table.specs.View.{entry_at}
 use Rattle.making.specs.Making.{reach_in}
 use Rattle.making.proofs.CoeffLaws.{reach-next, partials-are}
-use borrow.Author.Rules.{rules}
 use Rattle.making.proofs.counts.reach_in.Goals as goal
 
 pub loop-q-init : goal.loop-q-init

@@ -1,10 +1,7 @@
-use mathlib.Core.Path.{◌≡◌, refl, ◌∙◌}
+use mathlib.Core.Path.{◌≡◌}
 use Prim.Native.Nat.{◌≤◌, ◌-◌}
-use native.Mathlib.Omega.{arith}
 use Rattle.table.specs.View.{entry_at}
 use Rattle.making.specs.Making.{reach_in}
-use Rattle.making.proofs.CoeffLaws.{reach-next, partials-are}
-use borrow.Author.Rules.{rules}
 use Rattle.making.proofs.counts.reach_in.Given as goal
 
 abbrev pub invariant-loop-q : goal.invariant-loop-q

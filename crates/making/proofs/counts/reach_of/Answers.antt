@@ -1,11 +1,8 @@
 use mathlib.Core.Path.{◌≡◌, refl, sym, ap, ◌∙◌}
-use Prim.Native.Nat.{◌≤◌}
 use native.Mathlib.Omega.{arith}
 use lib.Ieee.{of_bits, round}
-use Rattle.table.specs.View.{entry_at}
 use Rattle.making.specs.Making.{partial_reach, is_nonzero}
 use Rattle.making.proofs.CoeffLaws.{reach-hit, reach-miss}
-use borrow.Author.Rules.{rules}
 use Rattle.making.proofs.counts.reach_of.Goals as goal
 
 pub loop-i-init : goal.loop-i-init

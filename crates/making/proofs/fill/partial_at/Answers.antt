@@ -1,6 +1,5 @@
 use mathlib.Core.Path.{refl}
 use lib.Ieee.{of_bits, round}
-use borrow.Author.Rules.{rules}
 use Rattle.making.proofs.fill.partial_at.Goals as goal
 
 pub returns-in-Channel : goal.returns-in-Channel

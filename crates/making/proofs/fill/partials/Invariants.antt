@@ -1,17 +1,11 @@
-use mathlib.Core.Path.{◌≡◌, refl}
+use mathlib.Core.Path.{◌≡◌}
 use Prim.Native.Nat.{◌≤◌, ◌-◌}
-use native.Mathlib.Omega.{arith}
 use lib.ListN.{length}
 use Rattle.making.specs.inner.Views.{viewed}
-use lib.Ieee.{of_bits, round}
 use mathlib.Core.List.{◌++◌}
-use lib.ListN.{drop, length-set}
-use lib.Dec.{lit<}
+use lib.ListN.{drop}
 use Rattle.voice.specs.Lists.{up_to}
-use Rattle.voice.specs.Limits.{max_partials}
-use Rattle.making.specs.Making.{partial_coeff, partial_place}
-use Rattle.making.proofs.PlaceLaws.{place-again, place-full}
-use borrow.Author.Rules.{rules}
+use Rattle.making.specs.Making.{partial_place}
 use Rattle.making.proofs.fill.partials.Given as goal
 
 abbrev pub invariant-loop-x : goal.invariant-loop-x

@@ -1,6 +1,5 @@
 use mathlib.Core.Path.{refl}
 use borrow.Author.Tests.{eq-eqb, ne_eqb, lt-ltb, le-ltb}
-use borrow.Author.Rules.{rules}
 use Rattle.making.proofs.fill.slot_channel.Goals as goal
 
 pub returns-then-q-eq0 : goal.returns-then-q-eq0

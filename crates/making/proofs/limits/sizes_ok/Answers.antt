@@ -1,12 +1,8 @@
 use mathlib.Core.Path.{◌≡◌, refl, sym, ◌∙◌}
-use Prim.Native.Nat.{ℕ, ◌≤◌, ◌-◌}
 use native.Mathlib.Omega.{arith}
 use lib.ListN.{length}
-use mathlib.Core.List.{List}
-use Rattle.making.specs.inner.Views.{viewed}
-use borrow.Author.Tests.{not-true, not-false}
-use Rattle.making.specs.Making.{all, sizes_ok}
-use Rattle.making.proofs.ViewLaws.{rest, all_go, all-no, all_end}
+use Rattle.making.specs.Making.{sizes_ok}
+use Rattle.making.proofs.ViewLaws.{all_go, all-no, all_end}
 use borrow.Author.Rules.{rules}
 use Rattle.making.proofs.limits.sizes_ok.Goals as goal
 
@@ -16,14 +12,14 @@ loop-i-init c =
 
 pub returns-then-not-size_ok : goal.returns-then-not-size_ok
 returns-then-not-size_ok c =
-    let len : length c.args.t1 ≡ 16 = search rules in
-    λ s. all-no s c.args.t1 c.loop-i.i c.args.count (omega arith) c.loop-i-test.true sizes_ok _ (c.loop-i.invariant.1 s) (sym (c.size_ok.ensures s) ∙ not-true _ c.if-not-size_ok.true)
+    let len : length c.args.views ≡ 16 = search rules in
+    λ s. all-no s c.args.views c.loop-i.i c.args.count (omega arith) c.loop-i-test.true sizes_ok _ (c.loop-i.invariant.1 s) (sym (c.size_ok.ensures s) ∙ c.if-not-size_ok.true)
 
 pub loop-i-preserved : goal.loop-i-preserved
 loop-i-preserved c =
-    let len : length c.args.t1 ≡ 16 = search rules in
-    (omega arith, λ s. all_go s c.args.t1 c.loop-i.i c.args.count (omega arith) c.loop-i-test.true sizes_ok _ (c.loop-i.invariant.1 s) (sym (c.size_ok.ensures s) ∙ not-false _ c.if-not-size_ok.false))
+    let len : length c.args.views ≡ 16 = search rules in
+    (omega arith, λ s. all_go s c.args.views c.loop-i.i c.args.count (omega arith) c.loop-i-test.true sizes_ok _ (c.loop-i.invariant.1 s) (sym (c.size_ok.ensures s) ∙ c.if-not-size_ok.false))
 
 pub returns : goal.returns
 returns c =
-    λ s. all_end s c.args.t1 c.loop-i.i c.args.count c.loop-i-test.false sizes_ok _ (c.loop-i.invariant.1 s)
+    λ s. all_end s c.args.views c.loop-i.i c.args.count c.loop-i-test.false sizes_ok _ (c.loop-i.invariant.1 s)

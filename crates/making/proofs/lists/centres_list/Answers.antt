@@ -1,15 +1,12 @@
 -- `centres_list` meets its contract.
-use mathlib.Core.Path.{◌≡◌, refl}
-use mathlib.Core.List.{map, map-id}
-use Prim.Native.Nat.{◌≤◌, ◌-◌}
+use mathlib.Core.Path.{refl}
+use mathlib.Core.List.{map-id}
 use native.Mathlib.Omega.{arith}
-use lib.ListN.{length, take}
+use lib.ListN.{take}
 use lib.Seq.{take_all}
 use lib.Ieee.{Float, nan, of_bits, round}
 use Rattle.float.specs.F32.{quotient}
-use Rattle.voice.specs.Lists.{padded}
 use Rattle.voice.proofs.PadLaws.{pad-again}
-use borrow.Author.Rules.{rules}
 use Rattle.making.proofs.lists.centres_list.Goals as goal
 
 pub loop-i-init : goal.loop-i-init

@@ -1,7 +1,6 @@
 -- `lists_of` meets its contract.
 use lib.Ieee.{binary32, of_bits, round}
 use Rattle.making.proofs.ListLaws.{lists-put}
-use borrow.Author.Rules.{rules}
 use Rattle.making.proofs.lists.lists_of.Goals as goal
 
 pub returns : goal.returns

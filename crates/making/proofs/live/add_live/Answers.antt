@@ -1,5 +1,4 @@
 use mathlib.Core.Path.{refl}
-use borrow.Author.Rules.{rules}
 use Rattle.making.proofs.live.add_live.Goals as goal
 
 pub returns-then-is : goal.returns-then-is

@@ -1,15 +1,9 @@
-use lib.ListN.{get_or}
-use Rattle.making.specs.inner.Views.{no_view}
-use mathlib.Core.Path.{◌≡◌, refl, sym, ◌∙◌}
+use mathlib.Core.Path.{◌≡◌}
 use Prim.Native.Nat.{◌≤◌, ◌-◌}
-use native.Mathlib.Omega.{arith}
-use lib.ListN.{length}
 use Rattle.making.specs.inner.Views.{viewed}
 use mathlib.Core.Bool.{true}
 use Rattle.making.specs.Making.{all, sizes_ok, live_among}
-use Rattle.making.proofs.ViewLaws.{rest, any-go, any-yes, any-end, all_both}
-use Rattle.making.proofs.CoeffLaws.{sizes-are}
-use borrow.Author.Rules.{rules}
+use Rattle.making.proofs.ViewLaws.{rest}
 use Rattle.making.proofs.live.live_among.Given as goal
 
 abbrev pub invariant-loop-i : goal.invariant-loop-i

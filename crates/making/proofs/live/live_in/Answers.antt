@@ -1,11 +1,8 @@
 use mathlib.Core.Path.{◌≡◌, refl, sym, ap, ◌∙◌}
-use Prim.Native.Nat.{◌≤◌}
 use native.Mathlib.Omega.{arith}
 use lib.Ieee.{of_bits, round}
-use Rattle.table.specs.View.{entry_at}
 use Rattle.making.specs.Making.{live_in, is_nonzero}
 use Rattle.making.proofs.CoeffLaws.{live-hit, live-miss}
-use borrow.Author.Rules.{rules}
 use Rattle.making.proofs.live.live_in.Goals as goal
 
 pub loop-q-init : goal.loop-q-init

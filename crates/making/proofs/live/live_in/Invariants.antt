@@ -1,11 +1,7 @@
-use mathlib.Core.Path.{◌≡◌, refl, sym, ap, ◌∙◌}
+use mathlib.Core.Path.{◌≡◌}
 use Prim.Native.Nat.{◌≤◌}
-use native.Mathlib.Omega.{arith}
-use lib.Ieee.{of_bits, round}
 use Rattle.table.specs.View.{entry_at}
-use Rattle.making.specs.Making.{live_in, is_nonzero}
-use Rattle.making.proofs.CoeffLaws.{live-hit, live-miss}
-use borrow.Author.Rules.{rules}
+use Rattle.making.specs.Making.{live_in}
 use Rattle.making.proofs.live.live_in.Given as goal
 
 abbrev pub invariant-loop-q : goal.invariant-loop-q

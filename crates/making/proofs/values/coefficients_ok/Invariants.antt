@@ -1,14 +1,9 @@
-use mathlib.Core.Path.{◌≡◌, refl, sym, ap, ◌∙◌}
-use Prim.Native.Nat.{ℕ, ◌≤◌, ◌-◌}
-use native.Mathlib.Omega.{arith}
+use mathlib.Core.Path.{◌≡◌}
+use Prim.Native.Nat.{◌≤◌, ◌-◌}
 use lib.ListN.{drop}
-use borrow.Author.Tests.{not-true, not-false}
 use lib.Ieee.Scale.{finite}
 use Rattle.table.specs.View.{entry_at}
-use Rattle.table.proofs.WordLaws.{length-words}
 use Rattle.making.specs.Making.{f32, all}
-use Rattle.making.proofs.MakeLists.{all-drop-go, all-drop-no, all-drop-end}
-use borrow.Author.Rules.{rules}
 use Rattle.making.proofs.values.coefficients_ok.Given as goal
 
 -- those before x are finite

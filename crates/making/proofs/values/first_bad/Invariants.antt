@@ -1,13 +1,9 @@
-use mathlib.Core.Path.{◌≡◌, refl, sym, ◌∙◌}
+use mathlib.Core.Path.{◌≡◌}
 use Prim.Native.Nat.{◌≤◌, ◌-◌}
-use native.Mathlib.Omega.{arith}
-use lib.ListN.{length}
 use Rattle.making.specs.inner.Views.{viewed}
-use borrow.Author.Tests.{not-true, not-false}
 use Rattle.wire.specs.Parse.{Refusal}
 use Rattle.making.specs.Making.{ask_values}
-use Rattle.making.proofs.ViewLaws.{rest, values-go, values-no, values-end}
-use borrow.Author.Rules.{rules}
+use Rattle.making.proofs.ViewLaws.{rest}
 use Rattle.making.proofs.values.first_bad.Given as goal
 
 abbrev pub invariant-loop-i : goal.invariant-loop-i

@@ -1,5 +1,4 @@
 use mathlib.Core.Path.{refl}
-use borrow.Author.Rules.{rules}
 use Rattle.making.proofs.values.found_ok.Goals as goal
 
 pub returns-in-Bits : goal.returns-in-Bits
