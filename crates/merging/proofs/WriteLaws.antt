@@ -18,7 +18,7 @@ use Rattle.table.proofs.SizeLaws.{entry-end}
 use Rattle.table.proofs.Spelled.{spelled-entry}
 use Rattle.table.proofs.RoundTrip.{Bytes}
 use Rattle.merging.specs.declared.extent.Extent.{Extent}
-use Rattle.merging.specs.inner.Keys.{start_in, size_in_lem, piece_at, bytes_for}
+use Rattle.merging.specs.inner.Keys.{start_in, size_in, piece_at, bytes_for}
 use Rattle.merging.specs.inner.Image.{laid}
 use Rattle.merging.proofs.LaidLaws.{laid_none, laid-length, laid-laid, put-append, put-more}
 
@@ -50,11 +50,11 @@ entry-piece s byte i at e a h =
     piece-there s at (entry_size a) (omega arith) ∙ ap (λ (d : ℕ). take d (drop at s)) (sym n) ∙ sym w.bytes
 
 -- which image a key is of
-pub key-first : (s : List ℕ) (x : Extent) (v : List ℕ) (y : Extent) (k a n : ℕ) → a ≡ start_in k → n ≡ size_in_lem k → a < x.end → bytes_for s x v y k ≡ piece_at s a n
+pub key-first : (s : List ℕ) (x : Extent) (v : List ℕ) (y : Extent) (k a n : ℕ) → a ≡ start_in k → n ≡ size_in k → a < x.end → bytes_for s x v y k ≡ piece_at s a n
 unfolding bytes_for
 key-first s x v y k a n e f h = rw (← e, ← f, lt-ltb a x.end h) refl
 
-pub key-second : (s : List ℕ) (x : Extent) (v : List ℕ) (y : Extent) (k a n : ℕ) → a ≡ start_in k → n ≡ size_in_lem k → x.end ≤ a
+pub key-second : (s : List ℕ) (x : Extent) (v : List ℕ) (y : Extent) (k a n : ℕ) → a ≡ start_in k → n ≡ size_in k → x.end ≤ a
     → bytes_for s x v y k ≡ piece_at v (y.at + (a - x.end)) n
 unfolding bytes_for
 key-second s x v y k a n e f h = rw (← e, ← f, le-ltb a x.end h) refl

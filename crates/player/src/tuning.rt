@@ -58,8 +58,8 @@ pub fn noise_untuned() -> NoiseTuning
 // The partials' frequencies, and what each phase gains in a sample.
 fn steps_of(freqs: &mut [f32; 32], incs: &mut [f32; 32], m: usize, f0: f32, stretch: f32, inv: f32)
     requires { m ≤ max_partials }
-    ensures filled { Filled freqs.new (λ i. partial_freq (i + 1) f0 stretch) m }
-    ensures filled_2 { Filled incs.new (λ i. step_of (i + 1) f0 stretch inv) m }
+    ensures frequencies { Filled freqs.new (λ i. partial_freq (i + 1) f0 stretch) m }
+    ensures steps { Filled incs.new (λ i. step_of (i + 1) f0 stretch inv) m }
 {
     let fs = &mut freqs[..];
     let gs = &mut incs[..];
@@ -134,9 +134,9 @@ pub fn tune(
     mainlobe_gain: &[f32; 16],
     partials: &[f32; 2048],
 ) -> Tuning
-    requires le_count { (1 ≤ count) × (count ≤ max_entries) × (every (λ i. pitch_ok (get_or f0_hz.now i nan)) count ≡ true) ×
+    requires entries_in { (1 ≤ count) × (count ≤ max_entries) × (every (λ i. pitch_ok (get_or f0_hz.now i nan)) count ≡ true) ×
         (every (λ i. stretch_ok (get_or stretch.now i nan)) count ≡ true) × Within max_hz 1 f0 }
-    requires m_le_max_partials { (x.m ≤ max_partials) × (x.k ≤ max_blended) × Within 1 4096 x.inv }
+    requires counts_in { (x.m ≤ max_partials) × (x.k ≤ max_blended) × Within 1 4096 x.inv }
     requires tuned { eq f0 t.f0 ≡ true → Tuned x count f0_hz.now stretch.now mainlobe_gain.now partials.now f0 incs.old
         fades.old rows.old t }
     ensures { Tuned x count f0_hz.now stretch.now mainlobe_gain.now partials.now f0
@@ -170,8 +170,8 @@ pub fn tune_noise(
     noise: &[f32; 1024],
     live: &[u8; 16],
 ) -> NoiseTuning
-    requires le_count { (1 ≤ count) × (count ≤ max_entries) × (every (λ i. pitch_ok (get_or f0_hz.now i nan)) count ≡ true) × Within max_hz 1 f0 }
-    requires k_le_max_blended { (x.k ≤ max_blended) × (live_count ≤ max_bands) × LiveIn live.now live_count }
+    requires entries_in { (1 ≤ count) × (count ≤ max_entries) × (every (λ i. pitch_ok (get_or f0_hz.now i nan)) count ≡ true) × Within max_hz 1 f0 }
+    requires counts_in { (x.k ≤ max_blended) × (live_count ≤ max_bands) × LiveIn live.now live_count }
     requires noise_tuned { eq f0 was.f0 ≡ true → NoiseTuned x count live_count f0_hz.now noise_gain.now noise.now live.now f0
         rows.old was }
     ensures { NoiseTuned x count live_count f0_hz.now noise_gain.now noise.now

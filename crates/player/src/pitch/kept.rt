@@ -30,7 +30,7 @@ pub fn pitch_at(
 ) -> Pitch
     requires { (1 ≤ count) × (count ≤ max_entries) × (every (λ i. pitch_ok (get_or f0_hz.now i nan)) count ≡ true) ×
         (every (λ i. stretch_ok (get_or stretch.now i nan)) count ≡ true) × Within max_hz 1 f0 }
-    ensures f0_value { (result.f0 ≡ f0) × (result.s ≡ sides_of (bracket_of f0_hz.now count f0)) × (result.stretch ≡ value_between
+    ensures at { (result.f0 ≡ f0) × (result.s ≡ sides_of (bracket_of f0_hz.now count f0)) × (result.stretch ≡ value_between
         stretch.now result.s) × (result.mainlobe ≡ value_between mainlobe_gain.now result.s) }
     ensures sides_in { SidesIn max_entries result.s × Within 8 1 result.stretch }
 {
@@ -68,7 +68,7 @@ pub fn pitch_kept(
     count: usize,
     f0: f32,
 ) -> Pitch
-    requires le_count { (1 ≤ count) × (count ≤ max_entries) × (every (λ i. pitch_ok (get_or f0_hz.now i nan)) count ≡ true) ×
+    requires entries_in { (1 ≤ count) × (count ≤ max_entries) × (every (λ i. pitch_ok (get_or f0_hz.now i nan)) count ≡ true) ×
         (every (λ i. stretch_ok (get_or stretch.now i nan)) count ≡ true) × Within max_hz 1 f0 }
     requires pitch_at { eq f0 was.f0 ≡ true → PitchAt f0_hz.now stretch.now mainlobe_gain.now count f0 was }
     ensures { PitchAt f0_hz.now stretch.now mainlobe_gain.now count f0 result }

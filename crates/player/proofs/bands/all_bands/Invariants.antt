@@ -1,12 +1,8 @@
-use mathlib.Core.Path.{◌≡◌, refl}
+use mathlib.Core.Path.{◌≡◌}
 use mathlib.Core.List.{◌++◌}
 use Prim.Native.Nat.{◌-◌, ◌≤◌}
-use native.Mathlib.Omega.{arith}
 use lib.ListN.{drop}
-use borrow.Author.Rules.{rules}
 use Rattle.voice.specs.Lists.{up_to}
-use Rattle.voice.proofs.Loops.{up_to-again}
-use Rattle.player.proofs.BandLaws.{bands-full}
 use Rattle.player.proofs.bands.all_bands.Given as goal
 
 abbrev pub invariant-loop-b : goal.invariant-loop-b

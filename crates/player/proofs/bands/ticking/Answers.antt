@@ -1,6 +1,5 @@
 -- `ticking` meets its contract.
 use borrow.Author.Tests.{ne_eqb}
-use borrow.Author.Rules.{rules}
 use Rattle.player.proofs.bands.ticking.Goals as goal
 
 pub returns-then-set-ne0 : goal.returns-then-set-ne0

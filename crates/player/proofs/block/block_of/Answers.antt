@@ -1,25 +1,19 @@
 -- `block_of` meets its contract.
-use lib.Ieee.{Float}
-use mathlib.Core.List.{List, ◌++◌}
 use Prim.Native.Nat.{ℕ, ◌-◌, ◌+◌, ◌≤◌, ◌<◌, ◌*◌}
 use mathlib.Core.Path.{◌≡◌, sym, ◌∙◌}
 use native.Mathlib.Omega.{arith}
-use lib.ListN.{length, take, drop, length-take, length-drop}
+use lib.ListN.{length, take, length-take, length-drop}
 use lib.Seq.{length-take-le}
-use Rattle.voice.specs.Lists.{join_to}
 use Rattle.voice.specs.Input.{Call, call, frequency_at, gains_at}
 use Rattle.voice.specs.Voice.{voice_of, state_of}
-use Rattle.player.specs.Block.{channel_out, block_out}
+use Rattle.player.specs.Block.{block_out}
 use Rattle.voice.specs.declared.voice.Voice.{Voice}
 use Rattle.voice.proofs.Loops.{join_to-again, join_to-full, behind, behind-at, behind-sized, behind-first, behind-last, row-end, small_product}
 use Rattle.player.proofs.SoundLaws.{length-channel}
-use borrow.Author.Rules.{rules}
+use Rattle.player.proofs.block.block_of.Invariants.{parts}
 use Rattle.player.proofs.block.block_of.Goals as goal
 
 -- the samples of each channel
-abbrev parts : Voice → Call → ℕ → List Float
-parts v k ch = channel_out v (frequency_at k ch) (gains_at k ch) k.shape.samples
-
 sized : (v : Voice) (k : Call) (ch : ℕ) → length (parts v k ch) ≡ k.shape.samples
 sized v k ch = length-channel v (frequency_at k ch) (gains_at k ch) k.shape.samples
 
@@ -33,7 +27,9 @@ channel-within ch channels samples h k l = (row-end ch channels samples h, small
 
 pub loop-ch-init : goal.loop-ch-init
 loop-ch-init c =
-    (omega arith, c.requires.3, c.requires.5, behind-first (parts (voice_of c.args.set c.args.lists.now c.args.partials.now c.args.noise.now (state_of c.args.phases.now c.args.memories.now c.args.rng)) (call c.args.b c.args.freq.now c.args.g0.now c.args.g1.now c.args.g2.now c.args.g3.now)) c.args.b.samples (sized (voice_of c.args.set c.args.lists.now c.args.partials.now c.args.noise.now (state_of c.args.phases.now c.args.memories.now c.args.rng)) (call c.args.b c.args.freq.now c.args.g0.now c.args.g1.now c.args.g2.now c.args.g3.now)) c.args.out.now)
+    let v = voice_of c.args.set c.args.lists.now c.args.partials.now c.args.noise.now (state_of c.args.phases.now c.args.memories.now c.args.rng) in
+    let k = call c.args.b c.args.freq.now c.args.g0.now c.args.g1.now c.args.g2.now c.args.g3.now in
+    (omega arith, c.requires.3, c.requires.5, behind-first (parts v k) c.args.b.samples (sized v k) c.args.out.now)
 
 pub overflow_mul-at : goal.overflow_mul-at
 overflow_mul-at c =
@@ -65,11 +61,12 @@ loop-ch-smaller c =
 
 pub loop-ch-preserved : goal.loop-ch-preserved
 loop-ch-preserved c =
-    (
+    let v = voice_of c.args.set c.args.lists.now c.args.partials.now c.args.noise.now (state_of c.args.phases.now c.args.memories.now c.args.rng) in
+    let k = call c.args.b c.args.freq.now c.args.g0.now c.args.g1.now c.args.g2.now c.args.g3.now in (
       omega (arith, c.loop-ch.invariant.0),
       omega (arith, c.loop-ch-test.true),
       c.out-1.given.1 ∙ c.loop-ch.invariant.2,
-      join_to-again (behind (take c.args.b.samples c.args.out.now) (parts (voice_of c.args.set c.args.lists.now c.args.partials.now c.args.noise.now (state_of c.args.phases.now c.args.memories.now c.args.rng)) (call c.args.b c.args.freq.now c.args.g0.now c.args.g1.now c.args.g2.now c.args.g3.now))) c.args.b.samples (behind-sized (parts (voice_of c.args.set c.args.lists.now c.args.partials.now c.args.noise.now (state_of c.args.phases.now c.args.memories.now c.args.rng)) (call c.args.b c.args.freq.now c.args.g0.now c.args.g1.now c.args.g2.now c.args.g3.now)) c.args.b.samples (sized (voice_of c.args.set c.args.lists.now c.args.partials.now c.args.noise.now (state_of c.args.phases.now c.args.memories.now c.args.rng)) (call c.args.b c.args.freq.now c.args.g0.now c.args.g1.now c.args.g2.now c.args.g3.now)) (take c.args.b.samples c.args.out.now) (length-take-le _ _ (omega (arith, row-end 0 c.args.b.channels c.args.b.samples c.requires.3, c.requires.5)))) c.loop-ch.ch (c.loop-ch.ch * c.args.b.samples + c.args.b.samples - c.loop-ch.ch * c.args.b.samples) c.args.out.now c.loop-ch.out _ (omega arith) c.loop-ch.invariant.3 (c.channel_at.ensures.written ∙ sym (behind-at (take c.args.b.samples c.args.out.now) (parts (voice_of c.args.set c.args.lists.now c.args.partials.now c.args.noise.now (state_of c.args.phases.now c.args.memories.now c.args.rng)) (call c.args.b c.args.freq.now c.args.g0.now c.args.g1.now c.args.g2.now c.args.g3.now)) c.loop-ch.ch c.loop-ch.invariant.0)),
+      join_to-again (behind (take c.args.b.samples c.args.out.now) (parts v k)) c.args.b.samples (behind-sized (parts v k) c.args.b.samples (sized v k) (take c.args.b.samples c.args.out.now) (length-take-le _ _ (omega (arith, row-end 0 c.args.b.channels c.args.b.samples c.requires.3, c.requires.5)))) c.loop-ch.ch (c.loop-ch.ch * c.args.b.samples + c.args.b.samples - c.loop-ch.ch * c.args.b.samples) c.args.out.now c.loop-ch.out _ (omega arith) c.loop-ch.invariant.3 (c.channel_at.ensures.written ∙ sym (behind-at (take c.args.b.samples c.args.out.now) (parts v k) c.loop-ch.ch c.loop-ch.invariant.0)),
     )
 
 pub slice_bounds-channel_at-end-2 : goal.slice_bounds-channel_at-end-2
@@ -87,5 +84,7 @@ channel_at-requires-2 c =
 pub returns : goal.returns
 unfolding block_out
 returns c =
+    let v = voice_of c.args.set c.args.lists.now c.args.partials.now c.args.noise.now (state_of c.args.phases.now c.args.memories.now c.args.rng) in
+    let k = call c.args.b c.args.freq.now c.args.g0.now c.args.g1.now c.args.g2.now c.args.g3.now in
     let e : c.loop-ch.ch ≡ c.args.b.channels = omega (arith, c.loop-ch.invariant.1, c.loop-ch-test.false) in
-    record { ends = c.channel_at-2.ensures.ends; written = behind-last (parts (voice_of c.args.set c.args.lists.now c.args.partials.now c.args.noise.now (state_of c.args.phases.now c.args.memories.now c.args.rng)) (call c.args.b c.args.freq.now c.args.g0.now c.args.g1.now c.args.g2.now c.args.g3.now)) c.args.b.samples (sized (voice_of c.args.set c.args.lists.now c.args.partials.now c.args.noise.now (state_of c.args.phases.now c.args.memories.now c.args.rng)) (call c.args.b c.args.freq.now c.args.g0.now c.args.g1.now c.args.g2.now c.args.g3.now)) (take c.args.b.samples c.args.out.now) c.loop-ch.out _ c.args.b.channels (length-take-le _ _ (omega (arith, row-end 0 c.args.b.channels c.args.b.samples c.requires.3, c.requires.5))) c.requires.3 (join_to-full (behind (take c.args.b.samples c.args.out.now) (parts (voice_of c.args.set c.args.lists.now c.args.partials.now c.args.noise.now (state_of c.args.phases.now c.args.memories.now c.args.rng)) (call c.args.b c.args.freq.now c.args.g0.now c.args.g1.now c.args.g2.now c.args.g3.now))) c.args.b.samples (behind-sized (parts (voice_of c.args.set c.args.lists.now c.args.partials.now c.args.noise.now (state_of c.args.phases.now c.args.memories.now c.args.rng)) (call c.args.b c.args.freq.now c.args.g0.now c.args.g1.now c.args.g2.now c.args.g3.now)) c.args.b.samples (sized (voice_of c.args.set c.args.lists.now c.args.partials.now c.args.noise.now (state_of c.args.phases.now c.args.memories.now c.args.rng)) (call c.args.b c.args.freq.now c.args.g0.now c.args.g1.now c.args.g2.now c.args.g3.now)) (take c.args.b.samples c.args.out.now) (length-take-le _ _ (omega (arith, row-end 0 c.args.b.channels c.args.b.samples c.requires.3, c.requires.5)))) c.loop-ch.ch c.args.b.channels c.args.out.now c.loop-ch.out e c.requires.5 c.loop-ch.invariant.3) c.channel_at-2.ensures.written }
+    record { ends = c.channel_at-2.ensures.ends; written = behind-last (parts v k) c.args.b.samples (sized v k) (take c.args.b.samples c.args.out.now) c.loop-ch.out _ c.args.b.channels (length-take-le _ _ (omega (arith, row-end 0 c.args.b.channels c.args.b.samples c.requires.3, c.requires.5))) c.requires.3 (join_to-full (behind (take c.args.b.samples c.args.out.now) (parts v k)) c.args.b.samples (behind-sized (parts v k) c.args.b.samples (sized v k) (take c.args.b.samples c.args.out.now) (length-take-le _ _ (omega (arith, row-end 0 c.args.b.channels c.args.b.samples c.requires.3, c.requires.5)))) c.loop-ch.ch c.args.b.channels c.args.out.now c.loop-ch.out e c.requires.5 c.loop-ch.invariant.3) c.channel_at-2.ensures.written }

@@ -1,21 +1,21 @@
 use lib.Ieee.{Float}
 use mathlib.Core.List.{List, ◌++◌}
-use Prim.Native.Nat.{ℕ, ◌-◌, ◌+◌, ◌≤◌, ◌<◌, ◌*◌}
-use mathlib.Core.Path.{◌≡◌, sym, ◌∙◌}
-use native.Mathlib.Omega.{arith}
-use lib.ListN.{length, take, drop, length-take, length-drop}
-use lib.Seq.{length-take-le}
+use Prim.Native.Nat.{ℕ, ◌-◌, ◌≤◌, ◌*◌}
+use mathlib.Core.Path.{◌≡◌}
+use lib.ListN.{length, take, drop}
 use Rattle.voice.specs.Lists.{join_to}
 use Rattle.voice.specs.Input.{Call, call, frequency_at, gains_at}
 use Rattle.voice.specs.Voice.{voice_of, state_of}
-use Rattle.player.specs.Block.{channel_out, block_out}
+use Rattle.player.specs.Block.{channel_out}
 use Rattle.voice.specs.declared.voice.Voice.{Voice}
-use Rattle.voice.proofs.Loops.{join_to-again, join_to-full, behind, behind-at, behind-sized, behind-first, behind-last, row-end, small_product}
-use Rattle.player.proofs.SoundLaws.{length-channel}
-use borrow.Author.Rules.{rules}
+use Rattle.voice.proofs.Loops.{behind}
 use Rattle.player.proofs.block.block_of.Given as goal
 
 -- the channels behind the first are written: at its place is what was there
+-- what each channel plays
+abbrev pub parts : Voice → Call → ℕ → List Float
+parts v k ch = channel_out v (frequency_at k ch) (gains_at k ch) k.shape.samples
+
 abbrev pub invariant-loop-ch : goal.invariant-loop-ch
 invariant-loop-ch l =
     (1 ≤ l.ch) × (l.ch ≤ l.b.channels) × (length l.out ≡ l.b.channels * l.b.samples)

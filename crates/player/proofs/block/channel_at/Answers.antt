@@ -9,7 +9,6 @@ use Rattle.player.specs.inner.Passes.{FrequenciesFit}
 use Rattle.voice.proofs.QuestionLaws.{inputs-fit}
 use Rattle.player.proofs.SoundLaws.{frequencies-fit}
 use Rattle.player.proofs.ChannelLaws.{channel-of-call}
-use borrow.Author.Rules.{rules}
 use Rattle.player.proofs.block.channel_at.Goals as goal
 
 pub part_of-f-requires : goal.part_of-f-requires

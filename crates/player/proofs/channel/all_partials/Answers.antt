@@ -4,7 +4,6 @@ use lib.ListN.{length}
 use Rattle.voice.specs.Input.{frequency_of, gains_of}
 use Rattle.player.specs.inner.Passes.{partials_voice}
 use Rattle.player.proofs.ChannelLaws.{same-phases, no-partials}
-use borrow.Author.Rules.{rules}
 use Rattle.player.proofs.channel.all_partials.Goals as goal
 
 pub returns-then-set-eq0 : goal.returns-then-set-eq0

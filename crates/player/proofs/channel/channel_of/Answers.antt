@@ -3,7 +3,6 @@ use lib.ListN.{length}
 use borrow.Author.Tests.{eq-eqb, ne_eqb}
 use Rattle.voice.specs.Input.{frequency_of, gains_of}
 use Rattle.player.proofs.ChannelLaws.{ends-still, ends-partials, ends-noisy}
-use borrow.Author.Rules.{rules}
 use Rattle.player.proofs.channel.channel_of.Goals as goal
 
 pub returns-then-set-eq0 : goal.returns-then-set-eq0

@@ -1,14 +1,11 @@
 -- `silence` meets its contract.
-use mathlib.Core.Path.{◌≡◌, refl}
-use mathlib.Core.List.{◌++◌}
-use Prim.Native.Nat.{◌-◌, ◌≤◌}
+use mathlib.Core.Path.{refl}
 use native.Mathlib.Omega.{arith}
-use lib.ListN.{length, drop, length-set}
+use lib.ListN.{length, length-set}
 use lib.Ieee.{of_bits, round}
 use Rattle.float.specs.F32.{quotient}
 use Rattle.voice.specs.Lists.{up_to}
 use Rattle.voice.proofs.Loops.{up_to-again, up_to-full}
-use borrow.Author.Rules.{rules}
 use Rattle.player.proofs.channel.silence.Goals as goal
 
 pub loop-i-init : goal.loop-i-init

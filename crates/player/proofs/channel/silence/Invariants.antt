@@ -1,13 +1,9 @@
-use mathlib.Core.Path.{◌≡◌, refl}
+use mathlib.Core.Path.{◌≡◌}
 use mathlib.Core.List.{◌++◌}
 use Prim.Native.Nat.{◌-◌, ◌≤◌}
-use native.Mathlib.Omega.{arith}
-use lib.ListN.{length, drop, length-set}
-use lib.Ieee.{of_bits, round}
+use lib.ListN.{length, drop}
 use Rattle.float.specs.F32.{quotient}
 use Rattle.voice.specs.Lists.{up_to}
-use Rattle.voice.proofs.Loops.{up_to-again, up_to-full}
-use borrow.Author.Rules.{rules}
 use Rattle.player.proofs.channel.silence.Given as goal
 
 abbrev pub invariant-loop-i : goal.invariant-loop-i

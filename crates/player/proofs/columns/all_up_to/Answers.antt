@@ -1,14 +1,12 @@
 -- `all_up_to` meets its contract.
 use mathlib.Core.Bool.{true, ◌&&◌}
-use mathlib.Core.Path.{◌≡◌, refl}
-use Prim.Native.Nat.{◌-◌, ◌≤◌}
+use mathlib.Core.Path.{refl}
 use native.Mathlib.Omega.{arith}
 use lib.ListN.{get_or}
 use lib.Ieee.{nan}
-use Rattle.voice.specs.Lists.{steps, every}
+use Rattle.voice.specs.Lists.{steps}
 use Rattle.voice.proofs.Loops.{steps-again, steps-full}
 use lib.Ieee.{le}
-use borrow.Author.Rules.{rules}
 use Rattle.player.proofs.columns.all_up_to.Goals as goal
 
 pub loop-i-init : goal.loop-i-init

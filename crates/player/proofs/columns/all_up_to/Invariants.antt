@@ -1,13 +1,9 @@
-use mathlib.Core.Bool.{true, ◌&&◌}
-use mathlib.Core.Path.{◌≡◌, refl}
+use mathlib.Core.Path.{◌≡◌}
 use Prim.Native.Nat.{◌-◌, ◌≤◌}
-use native.Mathlib.Omega.{arith}
 use lib.ListN.{get_or}
 use lib.Ieee.{nan}
-use Rattle.voice.specs.Lists.{steps, every}
-use Rattle.voice.proofs.Loops.{steps-again, steps-full}
+use Rattle.voice.specs.Lists.{every}
 use lib.Ieee.{le}
-use borrow.Author.Rules.{rules}
 use Rattle.player.proofs.columns.all_up_to.Given as goal
 
 abbrev pub invariant-loop-i : goal.invariant-loop-i

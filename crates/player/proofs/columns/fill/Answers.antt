@@ -1,9 +1,7 @@
 -- `fill` meets its contract.
-use mathlib.Core.Path.{◌≡◌, refl}
-use Prim.Native.Nat.{◌-◌, ◌≤◌}
+use mathlib.Core.Path.{refl}
 use native.Mathlib.Omega.{arith}
-use lib.ListN.{length, length-set}
-use Rattle.player.specs.inner.Columns.{Filled}
+use lib.ListN.{length-set}
 use Rattle.player.proofs.ColumnLaws.{filled_none, filled-again, filled-full}
 use borrow.Author.Rules.{rules}
 use Rattle.player.proofs.columns.fill.Goals as goal

@@ -1,10 +1,7 @@
-use mathlib.Core.Path.{◌≡◌, refl}
+use mathlib.Core.Path.{◌≡◌}
 use Prim.Native.Nat.{◌-◌, ◌≤◌}
-use native.Mathlib.Omega.{arith}
-use lib.ListN.{length, length-set}
+use lib.ListN.{length}
 use Rattle.player.specs.inner.Columns.{Filled}
-use Rattle.player.proofs.ColumnLaws.{filled_none, filled-again, filled-full}
-use borrow.Author.Rules.{rules}
 use Rattle.player.proofs.columns.fill.Given as goal
 
 abbrev pub invariant-loop-i : goal.invariant-loop-i

@@ -1,13 +1,8 @@
 -- `sum_of` meets its contract.
-use mathlib.Core.Path.{◌≡◌, refl}
-use Prim.Native.Nat.{◌-◌, ◌≤◌}
+use mathlib.Core.Path.{refl}
 use native.Mathlib.Omega.{arith}
-use lib.ListN.{get_or}
-use lib.Ieee.{nan}
-use Rattle.float.specs.F32.{◌⊕◌}
 use Rattle.voice.specs.Lists.{steps}
 use Rattle.voice.proofs.Loops.{steps-again, steps-full}
-use borrow.Author.Rules.{rules}
 use Rattle.player.proofs.columns.sum_of.Goals as goal
 
 pub loop-i-init : goal.loop-i-init

@@ -1,12 +1,9 @@
-use mathlib.Core.Path.{◌≡◌, refl}
+use mathlib.Core.Path.{◌≡◌}
 use Prim.Native.Nat.{◌-◌, ◌≤◌}
-use native.Mathlib.Omega.{arith}
 use lib.ListN.{get_or}
 use lib.Ieee.{nan}
 use Rattle.float.specs.F32.{◌⊕◌}
 use Rattle.voice.specs.Lists.{steps}
-use Rattle.voice.proofs.Loops.{steps-again, steps-full}
-use borrow.Author.Rules.{rules}
 use Rattle.player.proofs.columns.sum_of.Given as goal
 
 abbrev pub invariant-loop-i : goal.invariant-loop-i

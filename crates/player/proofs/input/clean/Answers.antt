@@ -2,7 +2,6 @@
 use mathlib.Core.Path.{sym, ◌∙◌}
 use lib.Ieee.{of_bits, round}
 use Rattle.voice.specs.Input.{cleaned}
-use borrow.Author.Rules.{rules}
 use Rattle.player.proofs.input.clean.Goals as goal
 
 pub returns-then-f : goal.returns-then-f

@@ -1,6 +1,5 @@
 -- `gains_at` meets its contract.
 use lib.Ieee.{of_bits, round}
-use borrow.Author.Rules.{rules}
 use Rattle.player.proofs.input.gains_at.Goals as goal
 
 pub returns : goal.returns

@@ -5,7 +5,6 @@ use lib.Dec.{T}
 use lib.ListN.{get_or}
 use lib.Ieee.{Float, nan, of_bits, round}
 use borrow.Author.Tests.{eq-eqb}
-use borrow.Author.Rules.{rules}
 use Rattle.player.proofs.input.gains_for.Goals as goal
 
 pub returns-then-blend-eq0 : goal.returns-then-blend-eq0

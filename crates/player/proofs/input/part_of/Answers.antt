@@ -6,7 +6,6 @@ use lib.ListN.{length}
 use borrow.Author.Tests.{eq-eqb, ne_eqb}
 use Rattle.voice.specs.Input.{part_of}
 use Rattle.voice.proofs.Loops.{input-end}
-use borrow.Author.Rules.{rules}
 use Rattle.player.proofs.input.part_of.Goals as goal
 
 pub returns-then-k-eq0 : goal.returns-then-k-eq0

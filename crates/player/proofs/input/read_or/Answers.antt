@@ -3,7 +3,6 @@ use lib.ListN.{get_or-eq_default}
 use lib.Ieee.{nan}
 use mathlib.Core.Path.{sym}
 use Rattle.voice.proofs.Loops.{read-any}
-use borrow.Author.Rules.{rules}
 use Rattle.player.proofs.input.read_or.Goals as goal
 
 pub returns-then-i-part : goal.returns-then-i-part

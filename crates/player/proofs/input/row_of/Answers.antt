@@ -1,7 +1,6 @@
 -- `row_of` meets its contract.
 use mathlib.Core.Path.{sym}
 use native.Mathlib.Nat.{mod-eq_of_lt}
-use borrow.Author.Rules.{rules}
 use Rattle.player.proofs.input.row_of.Goals as goal
 
 pub returns-then-ch-k : goal.returns-then-ch-k

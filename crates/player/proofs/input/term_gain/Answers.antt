@@ -1,7 +1,6 @@
 -- `term_gain` meets its contract.
 use lib.Ieee.{of_bits, round}
 use borrow.Author.Tests.{eq-eqb, ne_eqb}
-use borrow.Author.Rules.{rules}
 use Rattle.player.proofs.input.term_gain.Goals as goal
 
 pub returns-then-blend-eq0 : goal.returns-then-blend-eq0

@@ -1,16 +1,14 @@
 -- `play_parts` meets its contract.
 use mathlib.Core.Path.{sym, ◌∙◌}
 use lib.ListN.{length}
-use Rattle.voice.specs.Input.{Call, call}
+use Rattle.voice.specs.Input.{call}
 use Rattle.voice.specs.Voice.{voice_of, state_of}
 use Rattle.voice.specs.Question.{play_question}
-use Rattle.voice.specs.declared.voice.Voice.{Voice}
 use Rattle.voice.proofs.QuestionLaws.{play-accepted, block-is}
 use Rattle.player.specs.Bands.{ticking}
 use Rattle.player.proofs.BandLaws.{ticking-rules, bands-most}
 use Rattle.player.proofs.SoundLaws.{voice-fits}
 use Rattle.player.proofs.PlayLaws.{parts-refused, parts-played}
-use borrow.Author.Rules.{rules}
 use Rattle.player.proofs.playing.play_parts.Goals as goal
 
 pub returns-then-q-ne0 : goal.returns-then-q-ne0

@@ -1,12 +1,7 @@
 -- `fades_of` meets its contract.
-use mathlib.Core.Path.{◌≡◌}
-use Prim.Native.Nat.{◌-◌, ◌≤◌}
 use native.Mathlib.Omega.{arith}
-use lib.ListN.{length, get_or, length-set}
-use lib.Ieee.{nan}
-use Rattle.player.specs.inner.Columns.{Filled}
+use lib.ListN.{length-set}
 use Rattle.player.proofs.ColumnLaws.{filled_none, filled-again, filled-full}
-use Rattle.player.specs.Fade.{nyquist_fade}
 use borrow.Author.Rules.{rules}
 use Rattle.player.proofs.tuning.fades_of.Goals as goal
 

@@ -1,12 +1,9 @@
 use mathlib.Core.Path.{◌≡◌}
 use Prim.Native.Nat.{◌-◌, ◌≤◌}
-use native.Mathlib.Omega.{arith}
-use lib.ListN.{length, get_or, length-set}
+use lib.ListN.{length, get_or}
 use lib.Ieee.{nan}
 use Rattle.player.specs.inner.Columns.{Filled}
-use Rattle.player.proofs.ColumnLaws.{filled_none, filled-again, filled-full}
 use Rattle.player.specs.Fade.{nyquist_fade}
-use borrow.Author.Rules.{rules}
 use Rattle.player.proofs.tuning.fades_of.Given as goal
 
 abbrev pub invariant-loop-i : goal.invariant-loop-i

@@ -1,11 +1,9 @@
 -- `row_of` meets its contract.
-use mathlib.Core.Path.{◌≡◌}
-use Prim.Native.Nat.{ℕ, ◌-◌, ◌≤◌}
+use Prim.Native.Nat.{ℕ}
 use native.Mathlib.Omega.{arith}
-use lib.ListN.{length, length-set}
+use lib.ListN.{length-set}
 use lib.Ieee.{Float}
-use Rattle.player.specs.inner.Columns.{FilledRows}
-use Rattle.player.proofs.ColumnLaws.{RowFilled, row-none, row-again, rows-keep, rows-again}
+use Rattle.player.proofs.ColumnLaws.{row-none, row-again, rows-keep, rows-again}
 use Rattle.player.specs.Sound.{partial_row}
 use borrow.Author.Rules.{rules}
 use Rattle.player.proofs.tuning.row_of.Goals as goal

@@ -1,12 +1,9 @@
 use mathlib.Core.Path.{◌≡◌}
-use Prim.Native.Nat.{ℕ, ◌-◌, ◌≤◌}
-use native.Mathlib.Omega.{arith}
-use lib.ListN.{length, length-set}
-use lib.Ieee.{Float}
+use Prim.Native.Nat.{◌-◌, ◌≤◌}
+use lib.ListN.{length}
 use Rattle.player.specs.inner.Columns.{FilledRows}
-use Rattle.player.proofs.ColumnLaws.{RowFilled, row-none, row-again, rows-keep, rows-again}
+use Rattle.player.proofs.ColumnLaws.{RowFilled}
 use Rattle.player.specs.Sound.{partial_row}
-use borrow.Author.Rules.{rules}
 use Rattle.player.proofs.tuning.row_of.Given as goal
 
 abbrev pub invariant-loop-i : goal.invariant-loop-i

@@ -1,10 +1,6 @@
 -- `rows_of` meets its contract.
-use Prim.Native.Nat.{◌-◌, ◌≤◌}
 use native.Mathlib.Omega.{arith}
-use Rattle.player.specs.inner.Columns.{FilledRows}
 use Rattle.player.proofs.ColumnLaws.{rows_none, rows-full}
-use Rattle.player.specs.Sound.{partial_row}
-use borrow.Author.Rules.{rules}
 use Rattle.player.proofs.tuning.rows_of.Goals as goal
 
 pub loop-q-init : goal.loop-q-init

@@ -1,13 +1,10 @@
 -- `steps_of` meets its contract.
-use mathlib.Core.Path.{◌≡◌, ap}
-use Prim.Native.Nat.{◌+◌, ◌-◌, ◌≤◌}
+use mathlib.Core.Path.{ap}
 use native.Mathlib.Omega.{arith}
-use lib.ListN.{length, length-set}
+use lib.ListN.{length-set}
 use lib.Ieee.{Float}
 use Rattle.float.specs.F32.{◌⊗◌}
-use Rattle.player.specs.inner.Columns.{Filled}
 use Rattle.player.proofs.ColumnLaws.{filled_none, filled-again, filled-full}
-use Rattle.player.specs.Phase.{partial_freq, step_of}
 use borrow.Author.Rules.{rules}
 use Rattle.player.proofs.tuning.steps_of.Goals as goal
 
@@ -20,15 +17,14 @@ partial_freq-freq-requires c =
     omega arith
 
 pub loop-i-preserved : goal.loop-i-preserved
-loop-i-preserved c =
-    (
-      omega arith,
-      simp length-set c.loop-i.invariant.1,
-      simp length-set c.loop-i.invariant.2,
-      filled-again _ c.loop-i.fs c.loop-i.i _ (omega arith) c.partial_freq-freq.ensures c.loop-i.invariant.3,
-      filled-again _ c.loop-i.gs c.loop-i.i _ (omega arith) (ap (λ (z : Float). z ⊗ c.args.inv) c.partial_freq-freq.ensures) c.loop-i.invariant.4,
-    )
+loop-i-preserved c = (
+  omega arith,
+  simp length-set c.loop-i.invariant.1,
+  simp length-set c.loop-i.invariant.2,
+  filled-again _ c.loop-i.fs c.loop-i.i _ (omega arith) c.partial_freq-freq.ensures c.loop-i.invariant.3,
+  filled-again _ c.loop-i.gs c.loop-i.i _ (omega arith) (ap (λ (z : Float). z ⊗ c.args.inv) c.partial_freq-freq.ensures) c.loop-i.invariant.4,
+)
 
 pub returns : goal.returns
 returns c =
-    record { filled = filled-full _ c.loop-i.fs c.loop-i.i _ (omega arith) c.loop-i.invariant.3; filled_2 = filled-full _ c.loop-i.gs c.loop-i.i _ (omega arith) c.loop-i.invariant.4 }
+    record { frequencies = filled-full _ c.loop-i.fs c.loop-i.i _ (omega arith) c.loop-i.invariant.3; steps = filled-full _ c.loop-i.gs c.loop-i.i _ (omega arith) c.loop-i.invariant.4 }

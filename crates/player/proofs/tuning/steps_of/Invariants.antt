@@ -1,13 +1,8 @@
-use mathlib.Core.Path.{◌≡◌, ap}
+use mathlib.Core.Path.{◌≡◌}
 use Prim.Native.Nat.{◌+◌, ◌-◌, ◌≤◌}
-use native.Mathlib.Omega.{arith}
-use lib.ListN.{length, length-set}
-use lib.Ieee.{Float}
-use Rattle.float.specs.F32.{◌⊗◌}
+use lib.ListN.{length}
 use Rattle.player.specs.inner.Columns.{Filled}
-use Rattle.player.proofs.ColumnLaws.{filled_none, filled-again, filled-full}
 use Rattle.player.specs.Phase.{partial_freq, step_of}
-use borrow.Author.Rules.{rules}
 use Rattle.player.proofs.tuning.steps_of.Given as goal
 
 abbrev pub invariant-loop-i : goal.invariant-loop-i

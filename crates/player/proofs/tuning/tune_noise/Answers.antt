@@ -1,19 +1,18 @@
 use Rattle.player.proofs.SoundLaws.{sides-wide}
 use Rattle.player.proofs.PartialLaws.{noise-tuned-is}
-use borrow.Author.Rules.{rules}
 use Rattle.player.proofs.tuning.tune_noise.Goals as goal
 
 pub returns-then-f0-was : goal.returns-then-f0-was
 returns-then-f0-was c =
-    c.requires.k_le_max_blended.1 c.if-f0-was.true
+    c.requires.noise_tuned c.if-f0-was.true
 
 pub noise_rows-requires : goal.noise_rows-requires
 noise_rows-requires c =
-    (sides-wide c.args.count c.sides_at-s.result c.requires.le_count.1 c.sides_at-s.ensures.sides_in.0, c.rows_in-k.ensures.1, c.requires.k_le_max_blended.0.1, c.requires.k_le_max_blended.0.2)
+    (sides-wide c.args.count c.sides_at-s.result c.requires.entries_in.1 c.sides_at-s.ensures.sides_in.0, c.rows_in-k.ensures.1, c.requires.counts_in.1, c.requires.counts_in.2)
 
 pub value_between-requires : goal.value_between-requires
 value_between-requires c =
-    sides-wide c.args.count c.sides_at-s.result c.requires.le_count.1 c.sides_at-s.ensures.sides_in.0
+    sides-wide c.args.count c.sides_at-s.result c.requires.entries_in.1 c.sides_at-s.ensures.sides_in.0
 
 pub returns : goal.returns
 returns c =

@@ -1,12 +1,7 @@
 -- `gather_coeffs` meets its contract.
-use Prim.Native.Nat.{◌+◌, ◌-◌, ◌*◌, ◌≤◌}
 use native.Mathlib.Omega.{arith}
-use lib.ListN.{get_or}
-use lib.Ieee.{nan}
-use Rattle.player.specs.inner.Columns.{FilledRows}
 use Rattle.player.proofs.ColumnLaws.{rows_none, rows-full}
 use Rattle.player.proofs.BandColumns.{rows-are-coeffs}
-use borrow.Author.Rules.{rules}
 use Rattle.player.proofs.noise.bands.gather_coeffs.Goals as goal
 
 pub loop-q-init : goal.loop-q-init

@@ -1,10 +1,6 @@
 -- `gather_makeup` meets its contract.
-use mathlib.Core.Path.{◌≡◌}
-use Prim.Native.Nat.{◌-◌, ◌≤◌}
 use native.Mathlib.Omega.{arith}
-use lib.ListN.{length, get_or, length-set}
-use lib.Ieee.{nan}
-use Rattle.player.specs.inner.Columns.{Filled}
+use lib.ListN.{length-set}
 use Rattle.player.proofs.ColumnLaws.{filled_none, filled-again, filled-full}
 use borrow.Author.Rules.{rules}
 use Rattle.player.proofs.noise.bands.gather_makeup.Goals as goal

@@ -1,11 +1,8 @@
 use mathlib.Core.Path.{◌≡◌}
 use Prim.Native.Nat.{◌-◌, ◌≤◌}
-use native.Mathlib.Omega.{arith}
-use lib.ListN.{length, get_or, length-set}
+use lib.ListN.{length, get_or}
 use lib.Ieee.{nan}
 use Rattle.player.specs.inner.Columns.{Filled}
-use Rattle.player.proofs.ColumnLaws.{filled_none, filled-again, filled-full}
-use borrow.Author.Rules.{rules}
 use Rattle.player.proofs.noise.bands.gather_makeup.Given as goal
 
 abbrev pub invariant-loop-l : goal.invariant-loop-l

@@ -1,10 +1,8 @@
 -- `gather_memories` meets its contract.
-use mathlib.Core.Path.{◌≡◌, refl}
+use mathlib.Core.Path.{refl}
 use native.Mathlib.Omega.{arith}
-use Prim.Native.Nat.{◌-◌, ◌≤◌}
-use lib.ListN.{length, get_or, length-set}
+use lib.ListN.{get_or, length-set}
 use Rattle.voice.specs.Voice.{memory_at}
-use Rattle.player.specs.inner.Columns.{Memories}
 use Rattle.player.proofs.ColumnLaws.{memories-stored, memories-full}
 use borrow.Author.Rules.{rules}
 use Rattle.player.proofs.noise.bands.gather_memories.Goals as goal

@@ -1,11 +1,7 @@
-use mathlib.Core.Path.{◌≡◌, refl}
-use native.Mathlib.Omega.{arith}
+use mathlib.Core.Path.{◌≡◌}
 use Prim.Native.Nat.{◌-◌, ◌≤◌}
-use lib.ListN.{length, get_or, length-set}
-use Rattle.voice.specs.Voice.{memory_at}
+use lib.ListN.{length}
 use Rattle.player.specs.inner.Columns.{Memories}
-use Rattle.player.proofs.ColumnLaws.{memories-stored, memories-full}
-use borrow.Author.Rules.{rules}
 use Rattle.player.proofs.noise.bands.gather_memories.Given as goal
 
 abbrev pub invariant-loop-l : goal.invariant-loop-l

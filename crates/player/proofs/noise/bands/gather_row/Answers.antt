@@ -1,11 +1,9 @@
 -- `gather_row` meets its contract.
-use mathlib.Core.Path.{◌≡◌}
-use Prim.Native.Nat.{ℕ, ◌+◌, ◌-◌, ◌*◌, ◌≤◌}
+use Prim.Native.Nat.{ℕ, ◌+◌, ◌*◌}
 use native.Mathlib.Omega.{arith}
-use lib.ListN.{length, get_or, length-set}
+use lib.ListN.{get_or, length-set}
 use lib.Ieee.{Float, nan}
-use Rattle.player.specs.inner.Columns.{FilledRows}
-use Rattle.player.proofs.ColumnLaws.{RowFilled, row-none, row-again, rows-keep, rows-again}
+use Rattle.player.proofs.ColumnLaws.{row-none, row-again, rows-keep, rows-again}
 use borrow.Author.Rules.{rules}
 use Rattle.player.proofs.noise.bands.gather_row.Goals as goal
 

@@ -1,11 +1,9 @@
 use mathlib.Core.Path.{◌≡◌}
-use Prim.Native.Nat.{ℕ, ◌+◌, ◌-◌, ◌*◌, ◌≤◌}
-use native.Mathlib.Omega.{arith}
-use lib.ListN.{length, get_or, length-set}
-use lib.Ieee.{Float, nan}
+use Prim.Native.Nat.{◌+◌, ◌-◌, ◌*◌, ◌≤◌}
+use lib.ListN.{length, get_or}
+use lib.Ieee.{nan}
 use Rattle.player.specs.inner.Columns.{FilledRows}
-use Rattle.player.proofs.ColumnLaws.{RowFilled, row-none, row-again, rows-keep, rows-again}
-use borrow.Author.Rules.{rules}
+use Rattle.player.proofs.ColumnLaws.{RowFilled}
 use Rattle.player.proofs.noise.bands.gather_row.Given as goal
 
 abbrev pub invariant-loop-l : goal.invariant-loop-l

@@ -1,11 +1,10 @@
 -- `scatter_memories` meets its contract.
-use mathlib.Core.Path.{◌≡◌, refl}
+use mathlib.Core.Path.{refl}
 use native.Mathlib.Omega.{arith}
-use Prim.Native.Nat.{◌-◌, ◌≤◌}
-use lib.ListN.{length, get_or, length-set}
+use lib.ListN.{get_or, length-set}
 use Rattle.voice.specs.Lists.{steps}
 use Rattle.voice.specs.Voice.{with_memory}
-use Rattle.player.specs.inner.Columns.{state_of_columns, scattered}
+use Rattle.player.specs.inner.Columns.{state_of_columns}
 use Rattle.voice.proofs.Loops.{steps-again, steps-full}
 use borrow.Author.Rules.{rules}
 use Rattle.player.proofs.noise.bands.scatter_memories.Goals as goal

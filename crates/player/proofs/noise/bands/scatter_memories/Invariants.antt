@@ -1,12 +1,7 @@
-use mathlib.Core.Path.{◌≡◌, refl}
-use native.Mathlib.Omega.{arith}
+use mathlib.Core.Path.{◌≡◌}
 use Prim.Native.Nat.{◌-◌, ◌≤◌}
-use lib.ListN.{length, get_or, length-set}
-use Rattle.voice.specs.Lists.{steps}
-use Rattle.voice.specs.Voice.{with_memory}
-use Rattle.player.specs.inner.Columns.{state_of_columns, scattered}
-use Rattle.voice.proofs.Loops.{steps-again, steps-full}
-use borrow.Author.Rules.{rules}
+use lib.ListN.{length}
+use Rattle.player.specs.inner.Columns.{scattered}
 use Rattle.player.proofs.noise.bands.scatter_memories.Given as goal
 
 abbrev pub invariant-loop-l : goal.invariant-loop-l

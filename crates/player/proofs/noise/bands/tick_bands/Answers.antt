@@ -1,12 +1,11 @@
 -- `tick_bands` meets its contract.
-use mathlib.Core.Path.{◌≡◌, ap}
-use Prim.Native.Nat.{◌-◌, ◌≤◌}
+use mathlib.Core.Path.{ap}
 use native.Mathlib.Omega.{arith}
-use lib.ListN.{length, length-set}
+use lib.ListN.{length-set}
 use Rattle.filters.specs.Biquad.{tick_of}
-use Rattle.player.specs.inner.Columns.{Ticked, state_of_columns, coeffs_of_rows}
+use Rattle.player.specs.inner.Columns.{state_of_columns, coeffs_of_rows}
 use Rattle.filters.specs.declared.biquad.BiquadState.{BiquadState}
-use Rattle.player.proofs.ColumnLaws.{KeptFrom, kept-all, kept_again, state-kept, ticked-again, ticked-full}
+use Rattle.player.proofs.ColumnLaws.{kept-all, kept_again, state-kept, ticked-again, ticked-full}
 use borrow.Author.Rules.{rules}
 use Rattle.player.proofs.noise.bands.tick_bands.Goals as goal
 

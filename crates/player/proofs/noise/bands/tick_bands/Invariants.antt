@@ -1,12 +1,8 @@
-use mathlib.Core.Path.{◌≡◌, ap}
+use mathlib.Core.Path.{◌≡◌}
 use Prim.Native.Nat.{◌-◌, ◌≤◌}
-use native.Mathlib.Omega.{arith}
-use lib.ListN.{length, length-set}
-use Rattle.filters.specs.Biquad.{tick_of}
-use Rattle.player.specs.inner.Columns.{Ticked, state_of_columns, coeffs_of_rows}
-use Rattle.filters.specs.declared.biquad.BiquadState.{BiquadState}
-use Rattle.player.proofs.ColumnLaws.{KeptFrom, kept-all, kept_again, state-kept, ticked-again, ticked-full}
-use borrow.Author.Rules.{rules}
+use lib.ListN.{length}
+use Rattle.player.specs.inner.Columns.{Ticked}
+use Rattle.player.proofs.ColumnLaws.{KeptFrom}
 use Rattle.player.proofs.noise.bands.tick_bands.Given as goal
 
 abbrev pub invariant-loop-l : goal.invariant-loop-l

@@ -1,17 +1,10 @@
-use mathlib.Core.Path.{◌≡◌, refl, sym, subst}
-use mathlib.Core.List.{List, ◌++◌}
-use Prim.Native.Nat.{ℕ, ◌-◌, ◌≤◌}
-use native.Mathlib.Omega.{arith}
-use lib.ListN.{length, drop, length-set}
-use lib.Ieee.{Float}
-use Rattle.float.proofs.Finite.{shown}
-use Rattle.float.specs.inner.Range.{Within}
-use Rattle.voice.specs.Input.{frequency_of, gains_of, cleaned}
+use mathlib.Core.Path.{◌≡◌}
+use mathlib.Core.List.{◌++◌}
+use Prim.Native.Nat.{◌-◌, ◌≤◌}
+use lib.ListN.{length, drop}
+use Rattle.voice.specs.Input.{frequency_of, gains_of}
 use Rattle.player.specs.inner.Passes.{noise_voice, noise_out}
-use Rattle.voice.specs.declared.voice.Voice.{Voice}
-use Rattle.player.proofs.SoundLaws.{cleaned-within}
-use Rattle.player.proofs.NoisePass.{BandsAt, bands-at-first, bands-at-next, bands-at-last, noisy-sounds, noise-out-first, noise-out-again, noise-out-full, noise-tuned-of, of-noise-tuned, makeup-of}
-use borrow.Author.Rules.{rules}
+use Rattle.player.proofs.NoisePass.{BandsAt}
 use Rattle.player.proofs.noise.pass.noise_pass.Given as goal
 
 abbrev pub invariant-loop-i : goal.invariant-loop-i

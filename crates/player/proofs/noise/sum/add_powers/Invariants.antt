@@ -1,12 +1,10 @@
 use mathlib.Core.Path.{◌≡◌}
 use Prim.Native.Nat.{◌-◌, ◌+◌, ◌*◌, ◌≤◌}
-use native.Mathlib.Omega.{arith}
-use lib.ListN.{length, get_or, length-set}
+use lib.ListN.{length, get_or}
 use lib.Ieee.{nan}
 use Rattle.player.specs.inner.Columns.{Filled}
 use Rattle.float.specs.F32.{◌⊕◌, ◌⊗◌}
-use Rattle.player.proofs.ColumnLaws.{filled_none, filled-again, filled-full, KeptFrom, kept-all, kept_again}
-use borrow.Author.Rules.{rules}
+use Rattle.player.proofs.ColumnLaws.{KeptFrom}
 use Rattle.player.proofs.noise.sum.add_powers.Given as goal
 
 abbrev pub invariant-loop-l : goal.invariant-loop-l

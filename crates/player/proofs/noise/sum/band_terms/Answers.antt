@@ -1,16 +1,15 @@
 -- `band_terms` meets its contract.
-use mathlib.Core.Path.{◌≡◌, refl}
-use mathlib.Core.Logic.{⊎_elim}
-use Prim.Native.Nat.{◌-◌, ◌≤◌}
+use mathlib.Core.Path.{refl}
 use native.Mathlib.Omega.{arith}
-use lib.ListN.{length, get_or, length-set}
+use lib.ListN.{get_or, length-set}
 use lib.Seq.{lt-length-set}
 use lib.Ieee.{nan, of_bits, round, neg}
 use Rattle.float.specs.F32.{◌⊗◌}
-use Rattle.player.specs.inner.Columns.{band_term, Filled}
+use Rattle.player.specs.inner.Columns.{band_term}
 use Rattle.player.proofs.ColumnLaws.{silent-again, audible-again, filled_none, filled-full}
 use borrow.Author.Rules.{rules}
 use Rattle.player.proofs.noise.sum.band_terms.Goals as goal
+use Rattle.player.proofs.noise.sum.band_terms.Goals.{then-coeffs-l, else-coeffs-l}
 
 pub loop-l-init : goal.loop-l-init
 loop-l-init c = (omega arith, search rules, filled_none _ _)
@@ -25,12 +24,12 @@ loop-l-preserved c =
     let a = c.args in
     let l = c.loop-l.l in
     let r = get_or a.coeffs.now l nan in
-    let x = r ⊗ a.noise-gain ⊗ a.gain ⊗ get_or a.makeup.now l nan ⊗ get_or a.ys.now l nan in
+    let x = r ⊗ a.noise_gain ⊗ a.gain ⊗ get_or a.makeup.now l nan ⊗ get_or a.ys.now l nan in
     let h = c.loop-l.invariant.1 in
-    ⊎_elim
-    (λ w. (omega arith, rw w.1 (simp length-set h), rw w.1 (silent-again _ c.loop-l.s l r x _ _ (omega arith) refl w.0.taken refl c.loop-l.invariant.2)))
-    (λ w. (omega arith, rw w.1 (simp length-set h), rw w.1 (audible-again _ c.loop-l.s l r x _ (omega arith) refl w.0.left refl c.loop-l.invariant.2)))
-    c.if-coeffs-l.branch
+    elim c.if-coeffs-l.branch [
+      | then-coeffs-l w ↦ (omega arith, rw w.s-is (simp length-set h), rw w.s-is (silent-again _ c.loop-l.s l r x _ _ (omega arith) refl w.if-coeffs-l.true refl c.loop-l.invariant.2))
+      | else-coeffs-l w ↦ (omega arith, rw w.s-is (simp length-set h), rw w.s-is (audible-again _ c.loop-l.s l r x _ (omega arith) refl w.if-coeffs-l.false refl c.loop-l.invariant.2))
+    ]
 
 pub returns : goal.returns
 returns c =

@@ -1,14 +1,8 @@
-use mathlib.Core.Path.{◌≡◌, refl}
-use mathlib.Core.Logic.{⊎_elim}
+use mathlib.Core.Path.{◌≡◌}
 use Prim.Native.Nat.{◌-◌, ◌≤◌}
-use native.Mathlib.Omega.{arith}
-use lib.ListN.{length, get_or, length-set}
-use lib.Seq.{lt-length-set}
-use lib.Ieee.{nan, of_bits, round, neg}
-use Rattle.float.specs.F32.{◌⊗◌}
+use lib.ListN.{length, get_or}
+use lib.Ieee.{nan}
 use Rattle.player.specs.inner.Columns.{band_term, Filled}
-use Rattle.player.proofs.ColumnLaws.{silent-again, audible-again, filled_none, filled-full}
-use borrow.Author.Rules.{rules}
 use Rattle.player.proofs.noise.sum.band_terms.Given as goal
 
 abbrev pub invariant-loop-l : goal.invariant-loop-l

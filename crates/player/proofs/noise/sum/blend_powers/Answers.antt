@@ -1,15 +1,11 @@
 -- `blend_powers` meets its contract.
 use mathlib.Core.Path.{◌≡◌, refl}
-use Prim.Native.Nat.{◌-◌, ◌+◌, ◌*◌, ◌≤◌}
 use native.Mathlib.Omega.{arith}
-use lib.ListN.{get_or}
-use lib.Ieee.{nan, of_bits, round}
-use Rattle.player.specs.inner.Columns.{Filled}
+use lib.Ieee.{of_bits, round}
 use Rattle.voice.specs.Lists.{steps}
 use Rattle.player.specs.Sound.{blend_power}
 use Rattle.voice.proofs.Loops.{steps-again}
 use Rattle.player.proofs.ColumnLaws.{filled-as}
-use borrow.Author.Rules.{rules}
 use Rattle.player.proofs.noise.sum.blend_powers.Goals as goal
 
 pub loop-q-init : goal.loop-q-init

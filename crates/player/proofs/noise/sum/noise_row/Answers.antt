@@ -1,12 +1,11 @@
 -- `noise_row` meets its contract.
-use mathlib.Core.Path.{◌≡◌, ◌∙◌}
-use Prim.Native.Nat.{ℕ, ◌-◌, ◌≤◌}
+use mathlib.Core.Path.{◌∙◌}
+use Prim.Native.Nat.{ℕ}
 use native.Mathlib.Omega.{arith}
-use lib.ListN.{length, get_or, length-set}
+use lib.ListN.{get_or, length-set}
 use lib.Ieee.{Float}
-use Rattle.player.specs.inner.Columns.{FilledRows}
 use Rattle.player.specs.Sound.{noise_row}
-use Rattle.player.proofs.ColumnLaws.{RowFilled, row-none, row-again, rows-keep, rows-again}
+use Rattle.player.proofs.ColumnLaws.{row-none, row-again, rows-keep, rows-again}
 use borrow.Author.Rules.{rules}
 use Rattle.player.proofs.noise.sum.noise_row.Goals as goal
 

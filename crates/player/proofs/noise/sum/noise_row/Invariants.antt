@@ -1,12 +1,9 @@
-use mathlib.Core.Path.{◌≡◌, ◌∙◌}
-use Prim.Native.Nat.{ℕ, ◌-◌, ◌≤◌}
-use native.Mathlib.Omega.{arith}
-use lib.ListN.{length, get_or, length-set}
-use lib.Ieee.{Float}
+use mathlib.Core.Path.{◌≡◌}
+use Prim.Native.Nat.{◌-◌, ◌≤◌}
+use lib.ListN.{length, get_or}
 use Rattle.player.specs.inner.Columns.{FilledRows}
 use Rattle.player.specs.Sound.{noise_row}
-use Rattle.player.proofs.ColumnLaws.{RowFilled, row-none, row-again, rows-keep, rows-again}
-use borrow.Author.Rules.{rules}
+use Rattle.player.proofs.ColumnLaws.{RowFilled}
 use Rattle.player.proofs.noise.sum.noise_row.Given as goal
 
 abbrev pub invariant-loop-l : goal.invariant-loop-l

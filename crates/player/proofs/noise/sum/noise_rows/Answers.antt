@@ -1,11 +1,6 @@
 -- `noise_rows` meets its contract.
-use Prim.Native.Nat.{◌-◌, ◌≤◌}
 use native.Mathlib.Omega.{arith}
-use lib.ListN.{get_or}
-use Rattle.player.specs.inner.Columns.{FilledRows}
-use Rattle.player.specs.Sound.{noise_row}
 use Rattle.player.proofs.ColumnLaws.{rows_none, rows-full}
-use borrow.Author.Rules.{rules}
 use Rattle.player.proofs.noise.sum.noise_rows.Goals as goal
 
 pub loop-q-init : goal.loop-q-init

@@ -1,7 +1,6 @@
 -- `noise_step` meets its contract.
 use borrow.Author.Tests.{eq-eqb, ne_eqb}
 use lib.Ieee.{of_bits, round}
-use borrow.Author.Rules.{rules}
 use Rattle.player.proofs.noise.sum.noise_step.Goals as goal
 
 pub returns-then-live_count-eq0 : goal.returns-then-live_count-eq0

@@ -5,7 +5,6 @@ use borrow.Author.Tests.{eq-eqb, ne_eqb}
 use Rattle.float.specs.Sqrt.{sqrt}
 use Rattle.player.proofs.ColumnLaws.{first-row, sum_is}
 use Rattle.player.proofs.TermLaws.{band-stored}
-use borrow.Author.Rules.{rules}
 use Rattle.player.proofs.noise.sum.noise_sum.Goals as goal
 
 pub returns-then-blend-eq0 : goal.returns-then-blend-eq0

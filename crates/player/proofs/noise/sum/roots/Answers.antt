@@ -5,7 +5,6 @@ use native.Mathlib.Omega.{arith}
 use lib.ListN.{get_or}
 use lib.Ieee.{Float, nan}
 use Rattle.float.proofs.Column.{rooted-at}
-use borrow.Author.Rules.{rules}
 use Rattle.player.proofs.noise.sum.roots.Goals as goal
 
 pub returns : goal.returns

@@ -1,18 +1,10 @@
-use mathlib.Core.Path.{◌≡◌, refl, sym, ◌∙◌, subst}
-use mathlib.Core.List.{List, ◌++◌}
-use Prim.Native.Nat.{ℕ, ◌-◌, ◌≤◌}
-use native.Mathlib.Omega.{arith}
-use lib.ListN.{length, drop, length-set}
-use lib.Ieee.{Float}
-use Rattle.float.proofs.Finite.{shown}
-use Rattle.float.specs.inner.Range.{Within}
-use Rattle.voice.specs.Input.{frequency_of, gains_of, cleaned}
+use mathlib.Core.Path.{◌≡◌}
+use mathlib.Core.List.{◌++◌}
+use Prim.Native.Nat.{◌-◌, ◌≤◌}
+use lib.ListN.{length, drop}
+use Rattle.voice.specs.Input.{frequency_of, gains_of}
 use Rattle.player.specs.inner.Passes.{partials_voice, partials_out}
-use Rattle.voice.specs.declared.voice.Voice.{Voice}
-use Rattle.player.proofs.SoundLaws.{ConstantsOf, cleaned-within, inverse-small}
-use Rattle.player.proofs.PartialLaws.{tuned-voice, all-phases}
-use Rattle.player.proofs.PartialsPass.{PartialsAt, partials-at-first, partials-at-next, sounds, partials-out-first, partials-out-again, partials-out-full, tuned-of, of-tuned}
-use borrow.Author.Rules.{rules}
+use Rattle.player.proofs.PartialsPass.{PartialsAt}
 use Rattle.player.proofs.partials.in_columns.partials_in_columns.Given as goal
 
 abbrev pub invariant-loop-i : goal.invariant-loop-i

@@ -1,21 +1,15 @@
-use mathlib.Core.Path.{◌≡◌, refl, sym, subst}
-use mathlib.Core.List.{List, ◌++◌}
+use mathlib.Core.Path.{◌≡◌}
+use mathlib.Core.List.{◌++◌}
 use mathlib.Core.Bool.{true}
-use Prim.Native.Nat.{ℕ, ◌-◌, ◌≤◌}
-use native.Mathlib.Omega.{arith}
-use lib.ListN.{length, drop, length-set}
+use Prim.Native.Nat.{◌-◌, ◌≤◌}
+use lib.ListN.{length, drop}
 use lib.Dec.{T}
 use lib.Ieee.{Float, binary32, eq, fits}
-use Rattle.float.proofs.Finite.{shown}
 use Rattle.float.specs.inner.Range.{Within}
-use Rattle.voice.specs.Input.{frequency_of, gains_of, cleaned}
+use Rattle.voice.specs.Input.{frequency_of, gains_of}
 use Rattle.voice.specs.Voice.{list_at, phases_ok}
 use Rattle.player.specs.inner.Passes.{partials_voice, phases_at, partials_out}
 use Rattle.player.specs.inner.Tuning.{PitchAt}
-use Rattle.voice.specs.declared.voice.Voice.{Voice}
-use Rattle.player.proofs.SoundLaws.{ConstantsOf, cleaned-within, inverse-small}
-use Rattle.player.proofs.PartialsPass.{sample-of-is, phases-is, phases-keep, few-sounds, pitch-stays, pitch-of, no-pitch-yet, phases-first, phases-again, partials-out-first, partials-out-again, partials-out-full, pitched-of, of-pitched}
-use borrow.Author.Rules.{rules}
 use Rattle.player.proofs.partials.one_by_one.partials_one_by_one.Given as goal
 
 abbrev pub invariant-loop-i : goal.invariant-loop-i

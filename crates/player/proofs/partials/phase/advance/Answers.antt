@@ -3,7 +3,6 @@ use mathlib.Core.Path.{sym, ap}
 use lib.Ieee.{Float, binary32, add, sub, of_bits}
 use lib.Ieee.Fits.{add-fits}
 use Rattle.float.proofs.Finite.{shown}
-use Rattle.float.specs.inner.Range.{Within}
 use Rattle.float.proofs.Fraction.{fraction-below, fraction-over, not-lt, one}
 use Rattle.player.proofs.RangeLaws.{sum-up-to, sum-ok}
 use Rattle.player.proofs.partials.phase.advance.Goals as goal

@@ -2,7 +2,6 @@
 use native.Mathlib.Omega.{arith}
 use lib.IntN.{pos}
 use Rattle.float.proofs.Ints.{abs-in-float}
-use borrow.Author.Rules.{rules}
 use Rattle.player.proofs.partials.phase.partial_freq.Goals as goal
 
 pub int_to_float-result : goal.int_to_float-result

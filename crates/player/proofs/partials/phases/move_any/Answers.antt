@@ -1,7 +1,6 @@
 -- `move_any` meets its contract.
 use lib.ListN.{set}
-use mathlib.Core.Path.{◌≡◌, refl, ap, ◌∙◌}
-use Prim.Native.Nat.{◌-◌, ◌≤◌}
+use mathlib.Core.Path.{refl, ap, ◌∙◌}
 use native.Mathlib.Omega.{arith}
 use lib.ListN.{get_or}
 use lib.Ieee.{Float, nan}
@@ -9,7 +8,6 @@ use Rattle.voice.specs.Lists.{map_to}
 use Rattle.voice.proofs.Loops.{map_to-again, map_to-full}
 use Rattle.player.specs.Phase.{advance_of}
 use Rattle.player.proofs.RangeLaws.{turn-phase}
-use borrow.Author.Rules.{rules}
 use Rattle.player.proofs.partials.phases.move_any.Goals as goal
 
 pub loop-i-init : goal.loop-i-init

@@ -1,5 +1,4 @@
 -- `move_phases` meets its contract.
-use borrow.Author.Rules.{rules}
 use Rattle.player.proofs.partials.phases.move_phases.Goals as goal
 
 pub move_small-requires : goal.move_small-requires

@@ -1,11 +1,9 @@
 -- `add_partial` meets its contract.
-use mathlib.Core.Path.{◌≡◌, sym, subst, ◌∙◌}
+use mathlib.Core.Path.{sym, subst, ◌∙◌}
 use lib.Dec.{T}
-use lib.Ieee.{binary32, fits, of_bits, round}
-use Rattle.filters.specs.Wave.{sine_of}
+use lib.Ieee.{of_bits, round}
 use Rattle.filters.proofs.SineLaws.{sine-in}
 use Rattle.player.specs.Sound.{add_single}
-use borrow.Author.Rules.{rules}
 use Rattle.player.proofs.partials.sample.add_partial.Goals as goal
 
 pub returns-then-coeff : goal.returns-then-coeff

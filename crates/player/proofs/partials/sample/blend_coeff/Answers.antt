@@ -1,12 +1,10 @@
 -- `blend_coeff` meets its contract.
-use mathlib.Core.Path.{◌≡◌, refl}
-use Prim.Native.Nat.{◌-◌, ◌≤◌}
+use mathlib.Core.Path.{refl}
 use native.Mathlib.Omega.{arith}
 use lib.Ieee.{of_bits, round}
 use Rattle.voice.specs.Lists.{steps}
-use Rattle.player.specs.Sound.{blend_coeff, partial_row}
+use Rattle.player.specs.Sound.{blend_coeff}
 use Rattle.voice.proofs.Loops.{steps-again, steps-full}
-use borrow.Author.Rules.{rules}
 use Rattle.player.proofs.partials.sample.blend_coeff.Goals as goal
 
 pub loop-q-init : goal.loop-q-init

@@ -2,7 +2,6 @@
 use mathlib.Core.Path.{◌∙◌}
 use borrow.Author.Tests.{eq-eqb, ne_eqb}
 use Rattle.player.proofs.RangeLaws.{row_first}
-use borrow.Author.Rules.{rules}
 use Rattle.player.proofs.partials.sample.partial_coeff.Goals as goal
 
 pub returns-then-blend-eq0 : goal.returns-then-blend-eq0

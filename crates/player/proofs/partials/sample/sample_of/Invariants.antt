@@ -1,18 +1,9 @@
-use mathlib.Core.Path.{◌≡◌, refl}
-use mathlib.Core.Bool.{true}
+use mathlib.Core.Path.{◌≡◌}
 use Prim.Native.Nat.{◌-◌, ◌+◌, ◌≤◌}
-use native.Mathlib.Omega.{arith}
-use lib.ListN.{get_or}
-use lib.Ieee.{nan, of_bits, round}
 use Rattle.float.specs.F32.{quotient}
 use Rattle.voice.specs.Lists.{steps, map_to}
-use Rattle.voice.specs.Voice.{phase_ok}
 use Rattle.player.specs.Phase.{advance_of, step_of}
-use Rattle.player.specs.inner.Ranges.{Step}
 use Rattle.player.specs.inner.Terms.{sample_added}
-use Rattle.voice.proofs.Loops.{map_to-again, map_to-read, map_to-full, steps-again, steps-full}
-use Rattle.player.proofs.RangeLaws.{turn-phase, step_small, advance-ok}
-use borrow.Author.Rules.{rules}
 use Rattle.player.proofs.partials.sample.sample_of.Given as goal
 
 abbrev pub invariant-loop-i : goal.invariant-loop-i

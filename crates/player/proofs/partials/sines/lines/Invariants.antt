@@ -1,13 +1,9 @@
-use borrow.Author.Rules.{rules}
-use Prim.Native.Nat.{◌-◌, ◌≤◌, ◌<◌}
-use native.Mathlib.Omega.{arith}
-use mathlib.Core.Path.{◌≡◌, refl}
-use lib.ListN.{length, get_or, length-set}
+use Prim.Native.Nat.{◌-◌, ◌≤◌}
+use mathlib.Core.Path.{◌≡◌}
+use lib.ListN.{length, get_or}
 use lib.Ieee.{nan}
 use Rattle.player.specs.inner.Columns.{Filled}
-use Rattle.player.specs.inner.Sines.{index_of, cell_start, cell_rise, Cell}
-use Rattle.player.proofs.Waves.{start_is, rise-is}
-use Rattle.player.proofs.ColumnLaws.{filled_none, filled-again, filled-full}
+use Rattle.player.specs.inner.Sines.{index_of, cell_start, cell_rise}
 use Rattle.player.proofs.partials.sines.lines.Given as goal
 
 -- the places before i are done

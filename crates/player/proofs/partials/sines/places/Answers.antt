@@ -1,15 +1,11 @@
 -- `places` meets its contract.
-use borrow.Author.Rules.{rules}
-use Prim.Native.Nat.{◌-◌, ◌≤◌, ◌<◌}
+use Prim.Native.Nat.{◌<◌}
 use native.Mathlib.Omega.{arith}
 use mathlib.Core.Path.{◌≡◌, refl, sym, ap, subst}
-use lib.Dec.{T}
 use lib.ListN.{length, get_or, length-set}
-use lib.Ieee.{Float, nan, binary32, of_bits, fits, sub}
-use Rattle.player.specs.inner.Columns.{Filled}
-use Rattle.player.specs.inner.Ranges.{Phase}
+use lib.Ieee.{Float, nan, binary32, of_bits, sub}
 use Rattle.filters.specs.Wave.{place_of, rest_of}
-use Rattle.player.specs.inner.Sines.{cell_float, Cell, AllCells}
+use Rattle.player.specs.inner.Sines.{cell_float, Cell}
 use Rattle.player.proofs.Waves.{place-small, phase-cell, cells-none, cells-more, cells-full}
 use Rattle.player.proofs.ColumnLaws.{filled_none, filled-again, filled-full}
 use Rattle.player.proofs.partials.sines.places.Goals as goal
@@ -18,11 +14,11 @@ pub loop-i-init : goal.loop-i-init
 loop-i-init c = (omega arith, refl, refl, filled_none _ _, cells-none _, filled_none _ _)
 
 pub floor-f-requires : goal.floor-f-requires
-unfolding of_bits phase
+unfolding of_bits
 floor-f-requires c = place-small (get_or c.args.phases.now c.loop-i.i nan) (c.requires.3.at c.loop-i.i c.loop-i-test.true)
 
 pub loop-i-preserved : goal.loop-i-preserved
-unfolding of_bits phase
+unfolding of_bits
 loop-i-preserved c =
     let l = c.loop-i in
     let e = c.floor-f.ensures in

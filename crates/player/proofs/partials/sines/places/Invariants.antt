@@ -1,16 +1,10 @@
-use borrow.Author.Rules.{rules}
-use Prim.Native.Nat.{◌-◌, ◌≤◌, ◌<◌}
-use native.Mathlib.Omega.{arith}
-use mathlib.Core.Path.{◌≡◌, refl, sym, ap, subst}
-use lib.Dec.{T}
-use lib.ListN.{length, get_or, length-set}
-use lib.Ieee.{Float, nan, binary32, of_bits, fits, sub}
+use Prim.Native.Nat.{◌-◌, ◌≤◌}
+use mathlib.Core.Path.{◌≡◌}
+use lib.ListN.{length, get_or}
+use lib.Ieee.{nan}
 use Rattle.player.specs.inner.Columns.{Filled}
-use Rattle.player.specs.inner.Ranges.{Phase}
-use Rattle.filters.specs.Wave.{place_of, rest_of}
-use Rattle.player.specs.inner.Sines.{cell_float, Cell, AllCells}
-use Rattle.player.proofs.Waves.{place-small, phase-cell, cells-none, cells-more, cells-full}
-use Rattle.player.proofs.ColumnLaws.{filled_none, filled-again, filled-full}
+use Rattle.filters.specs.Wave.{rest_of}
+use Rattle.player.specs.inner.Sines.{cell_float, AllCells}
 use Rattle.player.proofs.partials.sines.places.Given as goal
 
 -- the places before i are done

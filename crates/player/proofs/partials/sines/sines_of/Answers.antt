@@ -1,5 +1,4 @@
 -- `sines_of` meets its contract: the three columns' rules together are S.
-use borrow.Author.Rules.{rules}
 use Rattle.player.proofs.Waves.{sines-filled}
 use Rattle.player.proofs.partials.sines.sines_of.Goals as goal
 

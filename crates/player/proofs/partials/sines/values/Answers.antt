@@ -1,13 +1,11 @@
 -- `values` meets its contract.
-use borrow.Author.Rules.{rules}
-use Prim.Native.Nat.{◌-◌, ◌≤◌, ◌<◌}
+use Prim.Native.Nat.{◌<◌}
 use native.Mathlib.Omega.{arith}
 use mathlib.Core.Path.{◌≡◌, refl, ap}
 use lib.ListN.{length, get_or, length-set}
 use lib.Ieee.{Float, nan, of_bits}
-use Rattle.player.specs.inner.Columns.{Filled}
 use Rattle.player.specs.inner.Sines.{line_at}
-use Rattle.player.proofs.ColumnLaws.{KeptFrom, filled_none, filled-again, filled-full, kept-all, kept_again}
+use Rattle.player.proofs.ColumnLaws.{filled_none, filled-again, filled-full, kept-all, kept_again}
 use Rattle.player.proofs.partials.sines.values.Goals as goal
 
 pub loop-i-init : goal.loop-i-init

@@ -1,12 +1,10 @@
-use borrow.Author.Rules.{rules}
-use Prim.Native.Nat.{◌-◌, ◌≤◌, ◌<◌}
-use native.Mathlib.Omega.{arith}
-use mathlib.Core.Path.{◌≡◌, refl, ap}
-use lib.ListN.{length, get_or, length-set}
-use lib.Ieee.{Float, nan, of_bits}
+use Prim.Native.Nat.{◌-◌, ◌≤◌}
+use mathlib.Core.Path.{◌≡◌}
+use lib.ListN.{length, get_or}
+use lib.Ieee.{nan}
 use Rattle.player.specs.inner.Columns.{Filled}
 use Rattle.player.specs.inner.Sines.{line_at}
-use Rattle.player.proofs.ColumnLaws.{KeptFrom, filled_none, filled-again, filled-full, kept-all, kept_again}
+use Rattle.player.proofs.ColumnLaws.{KeptFrom}
 use Rattle.player.proofs.partials.sines.values.Given as goal
 
 -- the places before i are done, the others as they were

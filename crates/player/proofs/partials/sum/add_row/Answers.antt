@@ -1,8 +1,8 @@
 -- `add_row` meets its contract.
-use mathlib.Core.Path.{◌≡◌, refl}
-use Prim.Native.Nat.{◌+◌, ◌-◌, ◌*◌, ◌≤◌}
+use mathlib.Core.Path.{refl}
+use Prim.Native.Nat.{◌+◌, ◌*◌}
 use native.Mathlib.Omega.{arith}
-use lib.ListN.{length, get_or, length-set}
+use lib.ListN.{get_or, length-set}
 use lib.Ieee.{nan}
 use Rattle.float.specs.F32.{◌⊕◌, ◌⊗◌}
 use Rattle.voice.specs.Lists.{map_to}
@@ -18,7 +18,7 @@ loop-i-init c =
 
 pub loop-i-preserved : goal.loop-i-preserved
 loop-i-preserved c =
-    (omega arith, c.loop-i.invariant.1, simp length-set c.loop-i.invariant.2, map_to-again (λ i c. c ⊕ c.args.gain ⊗ get_or c.args.rows.now (c.args.q * 32 + i) nan) nan c.loop-i.i _ c.loop-i.cs c.loop-i.invariant.3)
+    (omega arith, c.loop-i.invariant.1, simp length-set c.loop-i.invariant.2, map_to-again (λ i x. x ⊕ c.args.gain ⊗ get_or c.args.rows.now (c.args.q * 32 + i) nan) nan c.loop-i.i _ c.loop-i.cs c.loop-i.invariant.3)
 
 pub returns : goal.returns
 returns c =

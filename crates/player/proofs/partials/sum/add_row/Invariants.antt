@@ -1,13 +1,9 @@
-use mathlib.Core.Path.{◌≡◌, refl}
+use mathlib.Core.Path.{◌≡◌}
 use Prim.Native.Nat.{◌+◌, ◌-◌, ◌*◌, ◌≤◌}
-use native.Mathlib.Omega.{arith}
-use lib.ListN.{length, get_or, length-set}
+use lib.ListN.{length, get_or}
 use lib.Ieee.{nan}
 use Rattle.float.specs.F32.{◌⊕◌, ◌⊗◌}
 use Rattle.voice.specs.Lists.{map_to}
-use Rattle.voice.proofs.Loops.{map_to-again, map_to-full}
-use Rattle.player.proofs.ColumnLaws.{mapped-filled}
-use borrow.Author.Rules.{rules}
 use Rattle.player.proofs.partials.sum.add_row.Given as goal
 
 abbrev pub invariant-loop-i : goal.invariant-loop-i

@@ -1,17 +1,15 @@
 -- `blend_coeffs` meets its contract.
 use mathlib.Core.Path.{◌≡◌, refl}
-use Prim.Native.Nat.{◌+◌, ◌-◌, ◌*◌, ◌≤◌}
+use Prim.Native.Nat.{◌+◌, ◌*◌}
 use native.Mathlib.Omega.{arith}
 use lib.ListN.{get_or}
 use lib.Ieee.{nan, of_bits}
 use Rattle.float.specs.F32.{◌⊕◌, ◌⊗◌, quotient}
-use Rattle.player.specs.inner.Columns.{Filled}
 use Rattle.voice.specs.Lists.{steps}
 use Rattle.voice.proofs.Loops.{steps-again}
 use Rattle.player.proofs.ColumnLaws.{filled-as}
 use lib.Ieee.{round}
 use Rattle.player.specs.Sound.{blend_coeff}
-use borrow.Author.Rules.{rules}
 use Rattle.player.proofs.partials.sum.blend_coeffs.Goals as goal
 
 pub loop-q-init : goal.loop-q-init
@@ -25,11 +23,10 @@ add_row-requires c =
 
 pub loop-q-preserved : goal.loop-q-preserved
 unfolding blend_coeff
-loop-q-preserved c =
-    (
-      omega arith,
-      filled-as _ _ _ c.args.m (λ i l. steps-again (λ q y. y ⊕ get_or c.args.gains.now q nan ⊗ get_or c.args.rows.now (q * 32 + i) nan) (quotient 0 1) (get_or c.loop-q.coeffs i nan) c.loop-q.q (c.loop-q.invariant.1.at i l)) c.add_row.ensures,
-    )
+loop-q-preserved c = (
+  omega arith,
+  filled-as _ _ _ c.args.m (λ i l. steps-again (λ q y. y ⊕ get_or c.args.gains.now q nan ⊗ get_or c.args.rows.now (q * 32 + i) nan) (quotient 0 1) (get_or c.loop-q.coeffs i nan) c.loop-q.q (c.loop-q.invariant.1.at i l)) c.add_row.ensures,
+)
 
 pub returns : goal.returns
 returns c =

@@ -1,16 +1,8 @@
-use mathlib.Core.Path.{◌≡◌, refl}
 use Prim.Native.Nat.{◌+◌, ◌-◌, ◌*◌, ◌≤◌}
-use native.Mathlib.Omega.{arith}
 use lib.ListN.{get_or}
-use lib.Ieee.{nan, of_bits}
-use Rattle.float.specs.F32.{◌⊕◌, ◌⊗◌, quotient}
+use lib.Ieee.{nan}
 use Rattle.player.specs.inner.Columns.{Filled}
-use Rattle.voice.specs.Lists.{steps}
-use Rattle.voice.proofs.Loops.{steps-again}
-use Rattle.player.proofs.ColumnLaws.{filled-as}
-use lib.Ieee.{round}
 use Rattle.player.specs.Sound.{blend_coeff}
-use borrow.Author.Rules.{rules}
 use Rattle.player.proofs.partials.sum.blend_coeffs.Given as goal
 
 abbrev pub invariant-loop-q : goal.invariant-loop-q

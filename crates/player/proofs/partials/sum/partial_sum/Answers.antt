@@ -7,7 +7,6 @@ use borrow.Author.Tests.{eq-eqb, ne_eqb}
 use Rattle.float.specs.F32.{quotient}
 use Rattle.player.proofs.ColumnLaws.{first-row, sum_is}
 use Rattle.player.proofs.TermLaws.{partial-stored}
-use borrow.Author.Rules.{rules}
 use Rattle.player.proofs.partials.sum.partial_sum.Goals as goal
 
 pub returns-then-blend-eq0 : goal.returns-then-blend-eq0

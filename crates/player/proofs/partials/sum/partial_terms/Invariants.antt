@@ -1,14 +1,9 @@
-use mathlib.Core.Path.{◌≡◌, refl}
-use mathlib.Core.Logic.{⊎_elim}
+use mathlib.Core.Path.{◌≡◌}
 use Prim.Native.Nat.{◌-◌, ◌≤◌}
-use native.Mathlib.Omega.{arith}
-use lib.ListN.{length, get_or, length-set}
-use lib.Seq.{lt-length-set}
-use lib.Ieee.{nan, of_bits, round, neg}
+use lib.ListN.{length, get_or}
+use lib.Ieee.{nan}
 use Rattle.float.specs.F32.{◌⊗◌}
 use Rattle.player.specs.inner.Columns.{audible, Filled}
-use Rattle.player.proofs.ColumnLaws.{silent-again, audible-again, filled_none, filled-full}
-use borrow.Author.Rules.{rules}
 use Rattle.player.proofs.partials.sum.partial_terms.Given as goal
 
 abbrev pub invariant-loop-i : goal.invariant-loop-i

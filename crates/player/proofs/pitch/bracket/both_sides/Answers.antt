@@ -1,6 +1,5 @@
 -- `both_sides` meets its contract.
 use lib.Ieee.{of_bits, round}
-use borrow.Author.Rules.{rules}
 use Rattle.player.proofs.pitch.bracket.both_sides.Goals as goal
 
 pub returns-in-One : goal.returns-in-One

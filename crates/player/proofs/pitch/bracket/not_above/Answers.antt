@@ -1,10 +1,8 @@
 -- `not_above` meets its contract.
 use mathlib.Core.Path.{◌≡◌, refl, sym, ◌∙◌}
-use Prim.Native.Nat.{◌≤◌}
 use native.Mathlib.Omega.{arith}
 use Rattle.player.specs.Bracket.{not_above}
 use Rattle.player.proofs.BracketLaws.{not_above-down, not_above-here}
-use borrow.Author.Rules.{rules}
 use Rattle.player.proofs.pitch.bracket.not_above.Goals as goal
 
 pub loop-k-init : goal.loop-k-init

@@ -1,9 +1,6 @@
-use mathlib.Core.Path.{◌≡◌, refl, sym, ◌∙◌}
+use mathlib.Core.Path.{◌≡◌}
 use Prim.Native.Nat.{◌≤◌}
-use native.Mathlib.Omega.{arith}
 use Rattle.player.specs.Bracket.{not_above}
-use Rattle.player.proofs.BracketLaws.{not_above-down, not_above-here}
-use borrow.Author.Rules.{rules}
 use Rattle.player.proofs.pitch.bracket.not_above.Given as goal
 
 abbrev pub invariant-loop-k : goal.invariant-loop-k

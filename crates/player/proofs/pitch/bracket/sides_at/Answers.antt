@@ -4,7 +4,6 @@ use Rattle.float.specs.inner.Range.{Within}
 use Rattle.player.specs.Bracket.{sides_of}
 use Rattle.player.specs.inner.Ranges.{SidesIn}
 use Rattle.player.specs.declared.pitch.bracket.Sides.{Sides}
-use borrow.Author.Rules.{rules}
 use Rattle.player.proofs.pitch.bracket.sides_at.Goals as goal
 
 pub returns : goal.returns

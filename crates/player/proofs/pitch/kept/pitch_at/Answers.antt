@@ -1,11 +1,8 @@
 -- `pitch_at` meets its contract.
-use mathlib.Core.Path.{◌≡◌, refl}
-use mathlib.Core.Bool.{true}
-use Prim.Native.Nat.{ℕ, ◌<◌}
+use mathlib.Core.Path.{refl}
 use lib.ListN.{get_or}
 use lib.Ieee.{nan}
 use Rattle.voice.specs.Voice.{stretch_ok}
-use Rattle.player.specs.inner.Ranges.{SidesIn}
 use Rattle.voice.proofs.Loops.{every-at}
 use Rattle.player.proofs.SoundLaws.{sides-wide}
 use Rattle.player.proofs.pitch.kept.pitch_at.Goals as goal
@@ -16,7 +13,7 @@ sides_at-s-requires c =
 
 pub stretch_between-requires : goal.stretch_between-requires
 stretch_between-requires c =
-    ((sides-wide c.args.count c.sides_at-s.result c.requires.1 c.sides_at-s.ensures.sides_in.0), (λ i l. every-at (λ i. stretch_ok (get_or c.args.stretch.now i nan)) c.args.count i c.requires.3 l) c.sides_at-s.result.lo c.sides_at-s.ensures.sides_in.0.low, (λ i l. every-at (λ i. stretch_ok (get_or c.args.stretch.now i nan)) c.args.count i c.requires.3 l) c.sides_at-s.result.hi c.sides_at-s.ensures.sides_in.0.high, c.sides_at-s.ensures.sides_in.1)
+    ((sides-wide c.args.count c.sides_at-s.result c.requires.1 c.sides_at-s.ensures.sides_in.0), every-at (λ i. stretch_ok (get_or c.args.stretch.now i nan)) c.args.count c.sides_at-s.result.lo c.requires.3 c.sides_at-s.ensures.sides_in.0.low, every-at (λ i. stretch_ok (get_or c.args.stretch.now i nan)) c.args.count c.sides_at-s.result.hi c.requires.3 c.sides_at-s.ensures.sides_in.0.high, c.sides_at-s.ensures.sides_in.1)
 
 pub value_between-requires : goal.value_between-requires
 value_between-requires c =
@@ -24,4 +21,4 @@ value_between-requires c =
 
 pub returns : goal.returns
 returns c =
-    record { f0_value = (refl, c.sides_at-s.ensures.value, c.stretch_between.ensures.0, c.value_between.ensures); sides_in = ((sides-wide c.args.count c.sides_at-s.result c.requires.1 c.sides_at-s.ensures.sides_in.0), c.stretch_between.ensures.1) }
+    record { at = (refl, c.sides_at-s.ensures.value, c.stretch_between.ensures.0, c.value_between.ensures); sides_in = ((sides-wide c.args.count c.sides_at-s.result c.requires.1 c.sides_at-s.ensures.sides_in.0), c.stretch_between.ensures.1) }

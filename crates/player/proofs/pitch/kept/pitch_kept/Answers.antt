@@ -7,9 +7,9 @@ returns-then-f0-was c =
 
 pub pitch_at-requires : goal.pitch_at-requires
 pitch_at-requires c =
-    c.requires.le_count
+    c.requires.entries_in
 
 pub returns : goal.returns
 returns c =
     let P = c.pitch_at.ensures in
-    record { at = P.0.0; sides-are = P.0.1; stretch-is = P.0.2; mainlobe-is = P.0.3; inside = P.1.0; small = P.1.1 }
+    record { at = P.at.0; sides-are = P.at.1; stretch-is = P.at.2; mainlobe-is = P.at.3; inside = P.sides_in.0; small = P.sides_in.1 }

@@ -4,7 +4,6 @@ use lib.Dec.{T}
 use lib.Ieee.{Float}
 use Rattle.float.specs.inner.Range.{Within}
 use Rattle.player.proofs.RangeLaws.{stretch-ok-within}
-use borrow.Author.Rules.{rules}
 use Rattle.player.proofs.pitch.stretch.stretch_of.Goals as goal
 
 pub returns : goal.returns
