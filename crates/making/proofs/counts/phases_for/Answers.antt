@@ -1,0 +1,15 @@
+use mathlib.Core.Path.{refl, sym, ◌∙◌}
+use Rattle.making.proofs.CoeffLaws.{partials-are}
+use Rattle.making.proofs.counts.phases_for.Goals as goal
+
+pub returns-then-has_channel : goal.returns-then-has_channel
+returns-then-has_channel c =
+    rw (c.in-Single.is, sym (c.has_channel.ensures c.args.s.now) ∙ c.if-has_channel.true, partials-are c.args.s.now c.args.v) refl
+
+pub returns-else-has_channel : goal.returns-else-has_channel
+returns-else-has_channel c =
+    rw (c.in-Single.is, sym (c.has_channel.ensures c.args.s.now) ∙ c.if-has_channel.false) refl
+
+pub returns-in-Blend : goal.returns-in-Blend
+returns-in-Blend c =
+    c.reach_in.ensures ∙ rw c.in-Blend.is refl
