@@ -37,6 +37,22 @@ fn before_number(words: &str) -> &str {
     }
 }
 
+// The first n bytes as text; none where they are no text.
+fn start_of(bytes: &[u8], n: usize) -> &str {
+    if bytes.len() < n {
+        return "";
+    }
+    match std::str::from_utf8(&bytes[..n]) {
+        Ok(words) => words,
+        Err(_) => "",
+    }
+}
+
+fn write_words(fd: i32, bytes: [u8; 128], n: usize) {
+    let words = start_of(&bytes, n);
+    io::write_all(fd, before_number(words).as_bytes());
+}
+
 // Writes why, to a file descriptor.
 pub fn write(fd: i32, e: Error) {
     let mut text = Text {
@@ -47,14 +63,5 @@ pub fn write(fd: i32, e: Error) {
         Ok(()) => {}
         Err(_) => {}
     }
-    let n = text.count;
-    let bytes = text.bytes;
-    if n <= 128 {
-        match std::str::from_utf8(&bytes[..n]) {
-            Ok(words) => {
-                io::write_all(fd, before_number(words).as_bytes());
-            }
-            Err(_) => {}
-        }
-    }
+    write_words(fd, text.bytes, text.count);
 }

@@ -2,7 +2,7 @@
 //
 // The file is written under its name with .part at its end, and gets its name once every byte has reached the disk; where anything
 // fails, the .part is removed (console/src/output.rt). A name that is there already is left alone.
-// A Rattle program has no exit status: everything that goes wrong is said on standard error, and nothing else is, so the shell
+// It ends with status 0 in any case: everything that goes wrong is said on standard error, and nothing else is, so the shell
 // script tools/tone turns words there into status 1, and into 2 where the last of them are those of wrong use.
 #![tactic(auto)]
 
