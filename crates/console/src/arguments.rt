@@ -1,5 +1,5 @@
 // The words of the command line, by their number; word 0 is the program's name.
-ghost use Rattle.std.specs.Prelude.{length};
+ghost use Rattle.std.specs.Prelude.{◌≤◌, length};
 ghost use Rattle.io.specs.Counts.{IsPrefixLen};
 
 use std::env::FillError;
@@ -40,12 +40,14 @@ fn is_there<R: Env>(rt: &R, i: usize) -> bool {
     }
 }
 
-// How many words there are, the program's name among them.
-pub fn count<R: Env>(rt: &R) -> usize {
-    for i in 0..usize::MAX {
+// How many words there are, the program's name among them; no more than `most` are counted.
+pub fn count<R: Env>(rt: &R, most: usize) -> usize
+    ensures { result ≤ most }
+{
+    for i in 0..most {
         if !is_there(rt, i) {
             return i;
         }
     }
-    usize::MAX
+    most
 }

@@ -3,14 +3,15 @@
 // It is made under its name with .part at the end, which becomes the file once every byte has reached the disk, and is removed where
 // anything fails. So a file of the name asked for is whole, or empty where the program was ended in the moment between the taking of the
 // name and the renaming. No contract can say what is on a disk; these say what the answers are.
-ghost use Rattle.std.specs.Prelude.{◌≡◌, true};
+ghost use Rattle.std.specs.Prelude.{◌≡◌, true, IfSome};
+ghost use Rattle.std.specs.Fd.{file_raw_fd};
 ghost use Rattle.io.specs.Counts.{IsPrefixLen};
-ghost use Rattle.console.specs.Output.{StandardOutput, PartNamed};
+ghost use Rattle.console.specs.Output.{StandardOutput, Descriptor, PartNamed};
 
 use crate::{arguments, paths, say};
-use std::fs::OpenFile;
+use std::fs::{File, OpenFile};
 use std::io::{Error, ErrorKind};
-use std::os::fd::AsFd;
+use std::os::fd::{AsFd, AsRawFd};
 use std::rt::{Env, Files};
 
 // Why a call failed, by the system's numbers, where the standard library has no name for that alone.
@@ -178,10 +179,19 @@ fn no_part(by: Program, part: &[u8], e: Error) {
     }
 }
 
-// Makes the part, and answers the open file; nothing where it cannot be made, and why has been said.
-pub fn open<R: Files>(rt: &R, by: Program, part: &[u8]) -> Option<R::File> {
+// Makes the part, and answers the file, which is open by a descriptor; nothing where it cannot be made, and why has been said.
+pub fn open<R: Files<File = File>>(rt: &R, by: Program, part: &[u8]) -> Option<File>
+    ensures { IfSome result (λ file. Descriptor (file_raw_fd file)) }
+{
     match paths::create(rt, part) {
-        Ok(file) => Some(file),
+        Ok(file) => {
+            let fd = file.as_raw_fd();
+            if 0 <= fd {
+                return Some(file);
+            }
+            no_part(by, part, Error::from_raw_os_error(NO_DESCRIPTOR));
+            None
+        }
         Err(e) => {
             no_part(by, part, e);
             None

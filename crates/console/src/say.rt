@@ -145,13 +145,10 @@ pub fn failed(path: &[u8], e: Error) {
     text(2, b"\n");
 }
 
-// The last words on standard output. Answers whether they were written; where not, why has been said.
-pub fn last<R: Print>(rt: &R, words: &[u8]) -> bool {
+// The last words on standard output. Where they are not written, it says why.
+pub fn last<R: Print>(rt: &R, words: &[u8]) {
     match rt.write_all(words) {
-        Ok(()) => true,
-        Err(e) => {
-            failed(b"standard output", e);
-            false
-        }
+        Ok(()) => {}
+        Err(e) => failed(b"standard output", e),
     }
 }

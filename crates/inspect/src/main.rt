@@ -210,6 +210,17 @@ struct Taken {
     short: bool,
 }
 
+// Ends the line of a table. Answers whether standard output took that; where not, why has been said.
+fn is_ended<R: Print>(rt: &R) -> bool {
+    match rt.write_all(b"\n") {
+        Ok(()) => true,
+        Err(e) => {
+            say::failed(b"standard output", e);
+            false
+        }
+    }
+}
+
 // What was taken with a table too.
 fn take<R: Files + Env + Print>(
     rt: &R,
@@ -224,7 +235,7 @@ fn take<R: Files + Env + Print>(
     if !inspect(rt, argument, given, centres) {
         t.bad = std::num::wrapping_add_usize(t.bad, 1);
     }
-    if !say::last(rt, b"\n") {
+    if !is_ended(rt) {
         t.short = true;
     }
     t
@@ -280,7 +291,7 @@ fn run<R: Files + Env + Print>(rt: &R, a: Asked, count: usize) {
 }
 
 fn main(rt: HostRuntime) {
-    let count = arguments::count(&rt);
+    let count = arguments::count(&rt, usize::MAX);
     let a = read_arguments(&rt, count);
     if !is_right(a) {
         say::wrong_use(b"inspect");

@@ -99,7 +99,7 @@ fn with<R: Env>(rt: &R, a: Asked, i: usize) -> Asked {
 
 // Reads all arguments.
 pub fn read<R: Env>(rt: &R) -> Asked {
-    let count = arguments::count(rt);
+    let count = arguments::count(rt, usize::MAX);
     let mut a = Asked {
         first: 0,
         second: 0,

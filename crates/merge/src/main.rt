@@ -15,6 +15,7 @@ use console::{crc, file, output, say, words};
 use sounder::MergeAnswer;
 use sounder::images::sounder_from_bytes;
 use sounder::merges::sounder_merge;
+use std::fs::File;
 use std::io::{Print, Write};
 use std::rt::{Env, Files};
 
@@ -89,7 +90,7 @@ fn is_written<W: Write>(file: &mut W, part: &[u8], merged: &[u8]) -> bool {
 }
 
 // Writes the merged table into the part, which becomes the file.
-fn write<R: Files + Print>(
+fn write<R: Files<File = File> + Print>(
     rt: &R,
     force: bool,
     path: &[u8],
@@ -109,7 +110,7 @@ fn write<R: Files + Print>(
 }
 
 // Merges what was read. Every table fits the target.
-fn merge<R: Files + Env + Print>(
+fn merge<R: Files<File = File> + Env + Print>(
     rt: &R,
     a: Asked,
     path: &[u8],
@@ -133,7 +134,7 @@ fn merge<R: Files + Env + Print>(
 }
 
 // Reads both tables, each into a byte more than a table can have, so that one which is too long is known.
-fn read_both<R: Files + Env + Print>(rt: &R, a: Asked, path: &[u8], part: &[u8]) {
+fn read_both<R: Files<File = File> + Env + Print>(rt: &R, a: Asked, path: &[u8], part: &[u8]) {
     let mut first = [0u8; 65537];
     let r = file::read_argument(rt, a.first, &mut first);
     if r.failed {
@@ -150,7 +151,7 @@ fn read_both<R: Files + Env + Print>(rt: &R, a: Asked, path: &[u8], part: &[u8])
 }
 
 // Whether the file can be written is asked before a table is read.
-fn run<R: Files + Env + Print>(rt: &R, a: Asked) {
+fn run<R: Files<File = File> + Env + Print>(rt: &R, a: Asked) {
     let mut path = io::buffer();
     let n = output::name(rt, Program::Merge, a.out, a.force, &mut path);
     if n == 0 {

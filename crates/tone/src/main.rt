@@ -20,6 +20,7 @@ use playing::bits;
 use sounder::Answer;
 use sounder::images::{sounder_desk, sounder_from_bytes};
 use sounder::voices::{sounder_make, sounder_reseed};
+use std::fs::File;
 use std::io::Print;
 use std::rt::{Env, Files};
 use voice::{Voice, rate_ok};
@@ -175,7 +176,7 @@ fn pitches_ok(o: Options) -> bool {
 }
 
 // Plays a voice that was made.
-fn play_voice<R: Files + Env + Print>(rt: &R, o: Options, voice: Voice) {
+fn play_voice<R: Files<File = File> + Env + Print>(rt: &R, o: Options, voice: Voice) {
     if o.seeded {
         let again = sounder_reseed(voice, o.seed);
         let seeded = again.voice;
@@ -185,7 +186,7 @@ fn play_voice<R: Files + Env + Print>(rt: &R, o: Options, voice: Voice) {
     }
 }
 
-fn play_image<R: Files + Env + Print>(
+fn play_image<R: Files<File = File> + Env + Print>(
     rt: &R,
     o: Options,
     image: &[u8],
@@ -231,7 +232,7 @@ fn play_image<R: Files + Env + Print>(
     }
 }
 
-fn run<R: Files + Env + Print>(rt: &R, o: Options) {
+fn run<R: Files<File = File> + Env + Print>(rt: &R, o: Options) {
     let mut image = [0u8; 65537];
     let r = file::read_argument(rt, o.table, &mut image);
     if r.failed {

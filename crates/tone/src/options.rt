@@ -534,7 +534,7 @@ pub fn is_right(o: Options) -> bool {
 
 // Reads all arguments. What is wrong with them has been said where `failed` is set.
 pub fn read<R: Env>(rt: &R) -> Options {
-    let count = arguments::count(rt);
+    let count = arguments::count(rt, usize::MAX);
     let mut o = defaults();
     let mut i = 1;
     while i < count {

@@ -8,6 +8,7 @@ use crate::{sink, wav};
 use console::output::Program;
 use console::{crc, output, say, words};
 use sounder::Answer;
+use std::fs::File;
 use std::io::{Print, Write};
 use std::rt::{Env, Files};
 use voice::Voice;
@@ -192,7 +193,13 @@ fn report<R: Print>(rt: &R, path: &[u8], o: Options, run: Run, total: u32) {
 }
 
 // Plays into the part, which becomes the file once it is whole, and is removed where it is not.
-fn make_file<R: Files + Print>(rt: &R, o: Options, voice: Voice, path: &[u8], part: &[u8]) {
+fn make_file<R: Files<File = File> + Print>(
+    rt: &R,
+    o: Options,
+    voice: Voice,
+    path: &[u8],
+    part: &[u8],
+) {
     match output::open(rt, Program::Tone, part) {
         Some(mut file) => {
             let total = samples(o.micros, o.rate);
@@ -206,7 +213,7 @@ fn make_file<R: Files + Print>(rt: &R, o: Options, voice: Voice, path: &[u8], pa
     }
 }
 
-pub fn write<R: Files + Env + Print>(rt: &R, o: Options, voice: Voice) {
+pub fn write<R: Files<File = File> + Env + Print>(rt: &R, o: Options, voice: Voice) {
     let mut path = io::buffer();
     let n = output::name(rt, Program::Tone, o.out, false, &mut path);
     if n == 0 {
