@@ -11,7 +11,7 @@ from pathlib import Path
 
 WORD = re.compile(r'\b(fn|impl)\b')
 HIDDEN = re.compile(r"""//[^\n]*|\bb"(?:\\.|[^"\\])*"|\bb'(?:\\.[^']*|[^'])'""")
-NAMED = re.compile(r'\s*([\w:]+)::(?:(\w+)|\{((?:\s*\w+\s*,?)*)\})\s*;')  # one name, or several of one file, of a `pub use`
+NAMED = re.compile(r'\s*([\w:]+)::(?:(\w+)|\{([\s\w,]*)\})\s*;')  # one name, or several of one file, of a `pub use`
 CLAUSE = re.compile(r'\s*(requires|ensures)\b[^{]*(?=\{)')
 
 
