@@ -183,7 +183,7 @@ def literals():
 
 def write_array(f, text, name, kind, items):
     f.write('\n// %s\npub const %s: [%s; %d] = [\n' % (text, name, kind, len(items)))
-    f.write(''.join('    %s,\n' % item for item in items) + '];\n')
+    f.write(made.rows(items) + '];\n')
 
 
 def write_cases(f, text, name, cases):

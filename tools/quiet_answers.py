@@ -184,26 +184,26 @@ def shown_case(case):
 
 
 def array(text, name, kind, rows):
-    """An array, as `rt fmt` lays it out: an element to a line."""
-    return f'\n{text}pub const {name}: [{kind}; {len(rows)}] = [\n' + ''.join(f'    {row}\n' for row in rows) + '];\n'
+    """An array, as `rt fmt` lays it out."""
+    return f'\n{text}pub const {name}: [{kind}; {len(rows)}] = [\n{made.rows(rows)}];\n'
 
 
 def files():
     (found, listed), cases = plans(), asked()
     table, numbers, out = [], [], []
     for number, (words, at, count) in enumerate(found):
-        table.append(f'{at}_{count:03d}_{number % len(BEYOND)}, // plan {number}: {words}')
+        table.append((f'{at}_{count:03d}_{number % len(BEYOND)}', f'plan {number}: {words}'))
         out += shown_plan(number, listed[at:at + count])
     for case in cases:
         count, minute, (one, first), (other, second) = case
         asks, answer = shown_case(case)
-        numbers += [f'{count}, // {asks}', *(f'{n},' for n in (minute, one, *first, other, *second))]
+        numbers += [(f'{count}', asks), *(f'{n}' for n in (minute, one, *first, other, *second))]
         out.append(f'{asks}: {answer}')
     text = '// Made by tools/quiet_answers.py, which paints the week to know each answer.\n'
     text += array('''// Plans: where the windows start in WINDOWS, how many they are, in three digits, and which window of WINDOWS fills the
 // places beyond them.
 ''', 'PLANS', 'u64', table)
-    windows = [f'{start}_{end:05d}_{step:03d},' for start, end, step in listed]
+    windows = [f'{start}_{end:05d}_{step:03d}' for start, end, step in listed]
     text += array('// Windows: start, end in five digits, step in three.\n', 'WINDOWS', 'u64', windows)
     text += array('''// Plans at the limits, ten numbers each: how many windows, the minute, and two windows, each as its place, start, end
 // and step. In every other place stands 540 to 1020 step 50.

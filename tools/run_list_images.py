@@ -46,7 +46,7 @@ def files():
     for name, what, data in TABLES:
         head, numbers = f"pub const {name}: [u8; {len(data)}] = [", [str(b) for b in data]
         line = head + ", ".join(numbers) + "];"
-        out += f"\n// {what}\n" + (line if len(line) <= 100 else head + "\n    " + ",\n    ".join(numbers) + ",\n];") + "\n"
+        out += f"\n// {what}\n" + (line if len(line) <= 100 else head + "\n" + made.rows(numbers) + "];") + "\n"
     return {"crates/run_list/src/images.rt": out.encode()}
 
 

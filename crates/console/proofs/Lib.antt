@@ -10,4 +10,3 @@ pub mod PlansLaws
 pub mod PlansExamples
 pub mod CrcLaws
 pub mod CrcExamples
-pub mod OutputLaws

@@ -1,15 +1,14 @@
 -- What is known of a file that is written: the answers. What becomes of it on a disk, no contract can say.
-use Rattle.std.specs.Prelude.{◌≡◌, ℕ, ◌-◌, ◌<◌, ◌≤◌, List, [], ◌∷◌, length, take, drop, ℤ, pos, negsuc}
+use Rattle.std.specs.Prelude.{◌≡◌, ℕ, ◌-◌, ◌<◌, ◌≤◌, List, [], ◌∷◌, length, take, drop, ℤ, pos, negsuc, ◌≤ℤ◌}
 
 -- standard output's descriptor, 1, or -1 where it is closed
 abbrev pub StandardOutput : ℤ → Type 0
 StandardOutput (pos k) = k ≡ 1
 StandardOutput (negsuc k) = k ≡ 0
 
--- a descriptor, or -1
+-- the number of a descriptor
 abbrev pub Descriptor : ℤ → Type 0
-Descriptor (pos k) = Unit {0}
-Descriptor (negsuc k) = k ≡ 0
+Descriptor d = pos 0 ≤ℤ d
 
 -- ".part"
 abbrev pub dot_part : List ℕ

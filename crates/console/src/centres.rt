@@ -6,6 +6,7 @@ ghost use Rattle.console.specs.Reader.{start_line, first_line, longer_line, line
 use crate::decimal::{DecimalRead, Scan, conclude, next, start};
 use crate::narrow::value;
 use crate::{file, say};
+use std::rt::{Env, Files};
 
 // The centres, at the front of the values. `failed` says that there is no such file, or that a line is no centre; then `above` is how
 // many lines stand above the first such line, and `many` says that it is a number, but the seventeenth.
@@ -209,8 +210,8 @@ pub fn values(c: Centres) -> [f32; 16]
 }
 
 // Says which line is no centre, and why.
-fn say_fault(argument: usize, c: Centres) {
-    say::argument(2, argument);
+fn say_fault<R: Env>(rt: &R, argument: usize, c: Centres) {
+    say::argument(rt, 2, argument);
     say::text(2, b": line ");
     say::number(2, std::num::wrapping_add_usize(c.above, 1) as u64);
     if c.many {
@@ -225,20 +226,20 @@ fn say_fault(argument: usize, c: Centres) {
 
 // The centres in the file that an argument names; none where there is no such argument. What is wrong with the file has been said where
 // `failed` is set. No contract can say what a file holds, so this one only says that there are at most as many centres as places.
-pub fn from_argument(argument: usize) -> Centres
+pub fn from_argument<R: Files + Env>(rt: &R, argument: usize) -> Centres
     ensures { Few result }
 {
     if argument == 0 {
         return none();
     }
     let mut text = io::buffer();
-    let r = file::read_argument(argument, &mut text);
+    let r = file::read_argument(rt, argument, &mut text);
     if r.failed {
         return faulty(0, false);
     }
     let k = r.bytes;
     if k == 4096 {
-        say::argument(2, argument);
+        say::argument(rt, 2, argument);
         say::text(
             2,
             b": longer than 4095 bytes, and a file of centres is not\n",
@@ -247,7 +248,7 @@ pub fn from_argument(argument: usize) -> Centres
     }
     let c = read(&text[..k]);
     if c.failed {
-        say_fault(argument, c);
+        say_fault(rt, argument, c);
     }
     c
 }

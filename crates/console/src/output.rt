@@ -3,11 +3,28 @@
 // It is made under its name with .part at the end, which becomes the file once every byte has reached the disk, and is removed where
 // anything fails. So a file of the name asked for is whole, or empty where the program was ended in the moment between the taking of the
 // name and the renaming. No contract can say what is on a disk; these say what the answers are.
-ghost use Rattle.std.specs.Prelude.{◌≡◌, true};
+ghost use Rattle.std.specs.Prelude.{◌≡◌, true, IfSome};
+ghost use Rattle.std.specs.Fd.{file_raw_fd};
 ghost use Rattle.io.specs.Counts.{IsPrefixLen};
 ghost use Rattle.console.specs.Output.{StandardOutput, Descriptor, PartNamed};
 
-use crate::say;
+use crate::{arguments, paths, say};
+use std::fs::{File, OpenFile};
+use std::io::{Error, ErrorKind};
+use std::os::fd::{AsFd, AsRawFd};
+use std::rt::{Env, Files};
+
+// Why a call failed, by the system's numbers, where the standard library has no name for that alone.
+const NO_DESCRIPTOR: i32 = 9;
+
+const NO_PERMISSION: i32 = 13;
+
+fn is_for(e: Error, reason: i32) -> bool {
+    match e.raw_os_error() {
+        Some(code) => code == reason,
+        None => false,
+    }
+}
 
 // The programs that write a file, for the words in which they differ.
 #[derive(Clone, Copy)]
@@ -25,16 +42,19 @@ fn say_program(by: Program) {
 
 // Standard output, or -1 where it is closed, which has been said then: a file that is made would get its number, and what is said there
 // would go into it.
-pub fn standard_output() -> i32
+pub fn standard_output<S: AsFd>(out: &S) -> i32
     ensures { StandardOutput result }
 {
-    if libc::isatty(1) == 0 {
-        if os::errno() == libc::EBADF {
-            os::fail(b"standard output");
-            return -1;
+    match out.as_fd().try_clone_to_owned() {
+        Ok(_) => 1,
+        Err(e) => {
+            if is_for(e, NO_DESCRIPTOR) {
+                say::failed(b"standard output", e);
+                return -1;
+            }
+            1
         }
     }
-    libc::STDOUT_FILENO
 }
 
 // Says that a name is taken.
@@ -48,60 +68,45 @@ fn say_taken(by: Program, path: &[u8]) {
     }
 }
 
-// Whether something has the name already, whatever it is: also a link that leads nowhere.
-fn is_taken(mut path: [u8; 4096]) -> bool {
-    path[4095] = 0;
-    if libc::access(&path, libc::F_OK) == 0 {
-        return true;
-    }
-    let mut target = [0u8; 1];
-    0 <= libc::readlink(&path, &mut target)
-}
-
-// The name that an argument gives, with zeros after it.
-fn whole_name(argument: usize) -> [u8; 4096] {
-    let mut path = io::buffer();
-    os::arg(argument, &mut path);
-    path
-}
-
 // Whether a name may be replaced that cannot be opened, by why it cannot: where there is nothing, or a file that may not be written to,
 // since a renaming asks the folder alone. Else why has been said: a folder is one such.
-fn may_be_unopened(path: &[u8]) -> bool {
-    let error = os::errno();
-    if error == libc::ENOENT {
+fn may_be_unopened(path: &[u8], e: Error) -> bool {
+    if e.kind() == ErrorKind::NotFound {
         return true;
     }
-    if error == libc::EACCES {
+    if is_for(e, NO_PERMISSION) {
         return true;
     }
-    say::failed(path);
+    say::failed(path, e);
     false
+}
+
+fn can_be_synced<F: OpenFile>(file: &F) -> bool {
+    file.sync_all().is_ok()
 }
 
 // Whether a file may take the place of what has the name: nothing, or a file. Where not, why has been said. What cannot be synchronized,
 // such as /dev/null, is a device or a pipe; a renaming would put a file into its place.
-fn may_be_replaced(path: &[u8]) -> bool {
-    let fd = os::open_update(path);
-    if fd < 0 {
-        return may_be_unopened(path);
+fn may_be_replaced<R: Files>(rt: &R, path: &[u8]) -> bool {
+    match paths::open_update(rt, path) {
+        Ok(file) => {
+            if can_be_synced(&file) {
+                return true;
+            }
+            say::name(2, path);
+            say::text(2, b": there already, and no file\n");
+            false
+        }
+        Err(e) => may_be_unopened(path, e),
     }
-    let synced = libc::fsync(fd);
-    libc::close(fd);
-    if synced < 0 {
-        say::name(2, path);
-        say::text(2, b": there already, and no file\n");
-        return false;
-    }
-    true
 }
 
-// Whether the file that an argument names may be written; if not, why has been said.
-fn may_be_written(by: Program, argument: usize, path: &[u8], replace: bool) -> bool {
+// Whether the file with a name may be written; if not, why has been said.
+fn may_be_written<R: Files>(rt: &R, by: Program, path: &[u8], replace: bool) -> bool {
     if replace {
-        return may_be_replaced(path);
+        return may_be_replaced(rt, path);
     }
-    if is_taken(whole_name(argument)) {
+    if paths::is_taken(rt, path) {
         say_taken(by, path);
         return false;
     }
@@ -111,16 +116,22 @@ fn may_be_written(by: Program, argument: usize, path: &[u8], replace: bool) -> b
 // Puts the name of the file to write, which an argument gives, to the start of `path`, and answers how many bytes it has: 0 where it
 // cannot be written, and why has been said. Its part must have room for a name, and nothing else may have the name; with `replace` a file
 // may.
-pub fn name(by: Program, argument: usize, replace: bool, path: &mut [u8]) -> usize
+pub fn name<R: Files + Env>(
+    rt: &R,
+    by: Program,
+    argument: usize,
+    replace: bool,
+    path: &mut [u8],
+) -> usize
     ensures { IsPrefixLen result path.new }
 {
-    let n = os::arg(argument, path);
+    let n = arguments::read(rt, argument, path).bytes;
     if 4080 < n {
         say_program(by);
         say::text(2, b": the name of the file to write is too long\n");
         return 0;
     }
-    if may_be_written(by, argument, &path[..n], replace) {
+    if may_be_written(rt, by, &path[..n], replace) {
         return n;
     }
     0
@@ -146,18 +157,17 @@ fn put_part(path: &mut [u8], n: usize) -> usize
 
 // Puts the name of the part, which is the argument's with .part after it, to the start of `part`, and answers how many bytes it has; 0
 // where there is no room.
-pub fn part(argument: usize, part: &mut [u8]) -> usize
+pub fn part<R: Env>(rt: &R, argument: usize, part: &mut [u8]) -> usize
     ensures { PartNamed result part.new }
 {
-    let n = os::arg(argument, part);
+    let n = arguments::read(rt, argument, part).bytes;
     put_part(part, n)
 }
 
 // Says that the part cannot be made, and where one is there, why that may be.
-fn no_part(by: Program, part: &[u8]) {
-    let there = os::errno() == libc::EEXIST;
-    say::failed(part);
-    if there {
+fn no_part(by: Program, part: &[u8], e: Error) {
+    say::failed(part, e);
+    if e.kind() == ErrorKind::AlreadyExists {
         say::text(
             2,
             b"if its run is under way, wait until that ends; if none is, an interrupted run left it: remove it, then ",
@@ -169,42 +179,59 @@ fn no_part(by: Program, part: &[u8]) {
     }
 }
 
-// Makes the part, and answers its descriptor; -1 where it cannot be made, and why has been said.
-pub fn open(by: Program, part: &[u8]) -> i32
-    ensures { Descriptor result }
+// Makes the part, and answers the file, which is open by a descriptor; nothing where it cannot be made, and why has been said.
+pub fn open<R: Files<File = File>>(rt: &R, by: Program, part: &[u8]) -> Option<File>
+    ensures { IfSome result (λ file. Descriptor (file_raw_fd file)) }
 {
-    let fd = os::create(part);
-    if 0 <= fd {
-        return fd;
+    match paths::create(rt, part) {
+        Ok(file) => {
+            let fd = file.as_raw_fd();
+            if 0 <= fd {
+                return Some(file);
+            }
+            no_part(by, part, Error::from_raw_os_error(NO_DESCRIPTOR));
+            None
+        }
+        Err(e) => {
+            no_part(by, part, e);
+            None
+        }
     }
-    no_part(by, part);
-    -1
 }
 
 // Whether the part is there in full: every byte written, as the caller says, and on its device. Where it is not there, why has been said.
-fn is_synced(fd: i32, part: &[u8], whole: bool) -> bool
+fn is_synced<F: OpenFile>(file: &F, part: &[u8], whole: bool) -> bool
     ensures { result ≡ true → whole ≡ true }
 {
     if whole {
-        if libc::fsync(fd) < 0 {
-            say::failed(part);
-            return false;
+        match file.sync_all() {
+            Ok(()) => {
+                return true;
+            }
+            Err(e) => {
+                say::failed(part, e);
+                return false;
+            }
         }
-        return true;
     }
     false
 }
 
-// Whether the part is still the file that is open as `fd`. It may have been removed meanwhile, and another run may have made its own: then
-// none has the name, or one with another number of bytes. (A part that cannot be opened for another reason counts as the program's.)
-fn is_own(fd: i32, part: &[u8]) -> bool {
-    let named = os::open_read(part);
-    if named < 0 {
-        return os::errno() != libc::ENOENT;
+// How many bytes an open file has, where the system tells.
+fn length_of<F: OpenFile>(file: &F) -> Option<u64> {
+    match file.metadata() {
+        Ok(m) => Some(m.len()),
+        Err(_) => None,
     }
-    let same = libc::lseek(named, 0, libc::SEEK_END) == libc::lseek(fd, 0, libc::SEEK_END);
-    libc::close(named);
-    same
+}
+
+// Whether the part is still the file that is open as `file`. It may have been removed meanwhile, and another run may have made its own:
+// then none has the name, or one with another number of bytes. (A part that cannot be opened for another reason counts as the program's.)
+fn is_own<R: Files>(rt: &R, file: &R::File, part: &[u8]) -> bool {
+    match paths::open(rt, part) {
+        Ok(named) => length_of(&named) == length_of(file),
+        Err(e) => e.kind() != ErrorKind::NotFound,
+    }
 }
 
 // Says that the part is not the program's any more.
@@ -220,64 +247,70 @@ fn say_lost(by: Program, path: &[u8], part: &[u8]) {
 
 // Takes the name by a new file, which the system makes only where nothing has the name, a link that leads nowhere among them; that file is
 // the one that the renaming replaces.
-fn take_name(by: Program, path: &[u8]) -> bool {
-    let own = os::create(path);
-    if own < 0 {
-        if os::errno() == libc::EEXIST {
-            say_taken(by, path);
-        } else {
-            say::failed(path);
+fn take_name<R: Files>(rt: &R, by: Program, path: &[u8]) -> bool {
+    match paths::create(rt, path) {
+        Ok(_) => true,
+        Err(e) => {
+            if e.kind() == ErrorKind::AlreadyExists {
+                say_taken(by, path);
+            } else {
+                say::failed(path, e);
+            }
+            false
         }
-        return false;
     }
-    libc::close(own);
-    true
 }
 
-fn rename_part(path: &[u8], part: &[u8]) -> bool {
-    if os::rename(part, path) < 0 {
-        say::failed(path);
-        return false;
+fn rename_part<R: Files>(rt: &R, path: &[u8], part: &[u8]) -> bool {
+    match paths::rename(rt, part, path) {
+        Ok(()) => true,
+        Err(e) => {
+            say::failed(path, e);
+            false
+        }
     }
-    true
 }
 
 // Gives the whole part its name, over a file that has it where that is to be replaced. Answers whether the name was given.
-fn give_name(by: Program, path: &[u8], part: &[u8], replace: bool) -> bool {
+fn give_name<R: Files>(rt: &R, by: Program, path: &[u8], part: &[u8], replace: bool) -> bool {
     if replace {
-        return rename_part(path, part);
+        return rename_part(rt, path, part);
     }
-    if !take_name(by, path) {
+    if !take_name(rt, by, path) {
         return false;
     }
-    if rename_part(path, part) {
+    if rename_part(rt, path, part) {
         return true;
     }
-    os::unlink(path);
+    paths::remove(rt, path);
     false
 }
 
 // Closes the part and gives it its name where the caller says that every byte was written, and all of them are on the disk; where not, it
 // is removed. A part of another run is left alone. Answers whether the name was given; where not, why has been said, if not by the caller.
-pub fn keep(by: Program, fd: i32, path: &[u8], part: &[u8], whole: bool, replace: bool) -> bool
+pub fn keep<R: Files>(
+    rt: &R,
+    by: Program,
+    file: R::File,
+    path: &[u8],
+    part: &[u8],
+    whole: bool,
+    replace: bool,
+) -> bool
     ensures { result ≡ true → whole ≡ true }
 {
-    let synced = is_synced(fd, part, whole);
-    let own = is_own(fd, part);
-    let closed = libc::close(fd);
+    let synced = is_synced(&file, part, whole);
+    let own = is_own(rt, &file, part);
+    drop(file);
     if !own {
         say_lost(by, path, part);
         return false;
     }
     if synced {
-        if closed < 0 {
-            say::failed(part);
-        } else {
-            if give_name(by, path, part, replace) {
-                return true;
-            }
+        if give_name(rt, by, path, part, replace) {
+            return true;
         }
     }
-    os::unlink(part);
+    paths::remove(rt, part);
     false
 }

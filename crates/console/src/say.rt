@@ -1,5 +1,8 @@
 // Printing to a file descriptor: 1 is standard output, 2 standard error.
 use crate::fixed::magnitude;
+use crate::{arguments, reason};
+use std::io::{Error, Print};
+use std::rt::Env;
 
 pub fn text(fd: i32, words: &[u8]) {
     io::write_all(fd, words);
@@ -128,14 +131,24 @@ pub fn name(fd: i32, s: &[u8]) {
 }
 
 // An argument by its number on the command line, as a name.
-pub fn argument(fd: i32, i: usize) {
+pub fn argument<R: Env>(rt: &R, fd: i32, i: usize) {
     let mut word = io::buffer();
-    let n = os::arg(i, &mut word);
+    let n = arguments::read(rt, i, &mut word).bytes;
     name(fd, &word[..n]);
 }
 
-// A file's name, and why the call before failed: a write that succeeds leaves errno alone.
-pub fn failed(path: &[u8]) {
+// A file's name, and why it failed, on standard error.
+pub fn failed(path: &[u8], e: Error) {
     name(2, path);
-    os::fail(b"");
+    text(2, b": ");
+    reason::write(2, e);
+    text(2, b"\n");
+}
+
+// The last words on standard output. Where they are not written, it says why.
+pub fn last<R: Print>(rt: &R, words: &[u8]) {
+    match rt.write_all(words) {
+        Ok(()) => {}
+        Err(e) => failed(b"standard output", e),
+    }
 }

@@ -7,10 +7,12 @@
 mod entry;
 mod voices;
 
-use console::{centres, file, say, words};
+use console::{arguments, centres, file, say, words};
 use sounder::images::sounder_from_bytes;
+use std::io::Print;
+use std::rt::{Env, Files};
 
-fn usage() {
+fn usage<R: Print>(rt: &R) {
     say::text(
         1,
         b"inspect [--centres FILE] TABLE ..: what is in coefficient tables, and which voices can be made of them\n",
@@ -24,13 +26,10 @@ fn usage() {
         1,
         b"Voices are tried at 48000 samples a second. Numbers are rounded to six places.\n",
     );
-    let said = io::write_all(
-        1,
+    say::last(
+        rt,
         b"Status (of tools/inspect): 0 a voice can be made of every table, 1 a table is not read, refused or without a voice, 2 wrong use.\n",
     );
-    if !said {
-        os::fail(b"standard output");
-    }
 }
 
 // The table's name, its entries, and the voices of each kind. Answers whether a voice can be made of it. The last line is the caller's to
@@ -47,18 +46,16 @@ fn describe(image: &[u8], given: bool, centres: &[f32]) -> bool {
 }
 
 // Says which file an argument names, before what is said of it.
-fn say_argument(i: usize) {
-    let mut path = io::buffer();
-    let n = os::arg(i, &mut path);
-    say::name(1, &path[..n]);
+fn say_argument<R: Env>(rt: &R, i: usize) {
+    say::argument(rt, 1, i);
     say::text(1, b": ");
 }
 
 // One table. Answers whether a voice can be made of it. The last line is the caller's to end.
-fn inspect(argument: usize, given: bool, centres: &[f32]) -> bool {
+fn inspect<R: Files + Env>(rt: &R, argument: usize, given: bool, centres: &[f32]) -> bool {
     let mut image = [0u8; 65537];
-    say_argument(argument);
-    let r = file::read_argument(argument, &mut image);
+    say_argument(rt, argument);
+    let r = file::read_argument(rt, argument, &mut image);
     if r.failed {
         say::text(1, b"not read");
         return false;
@@ -155,13 +152,14 @@ fn with_word(mut a: Asked, word: &[u8]) -> Asked {
 }
 
 // What is asked for with argument i too.
-fn with(mut a: Asked, i: usize) -> Asked {
+fn with<R: Env>(rt: &R, mut a: Asked, i: usize) -> Asked {
     let mut word = io::buffer();
-    let n = os::arg(i, &mut word);
-    if os::errno() != 0 {
+    let given = arguments::read(rt, i, &mut word);
+    if !given.whole {
         a.skip = false;
         return wrong(a, b"an argument", b"longer than 4096 bytes");
     }
+    let n = given.bytes;
     if a.skip {
         with_centres(a, &word[..n], i)
     } else {
@@ -170,7 +168,7 @@ fn with(mut a: Asked, i: usize) -> Asked {
 }
 
 // All arguments are looked at before any table is.
-fn read_arguments(count: usize) -> Asked {
+fn read_arguments<R: Env>(rt: &R, count: usize) -> Asked {
     let mut a = Asked {
         tables: 0,
         centres: 0,
@@ -180,7 +178,7 @@ fn read_arguments(count: usize) -> Asked {
     };
     let mut i = 1;
     while i < count {
-        a = with(a, i);
+        a = with(rt, a, i);
         i += 1;
     }
     a
@@ -212,16 +210,32 @@ struct Taken {
     short: bool,
 }
 
+// Ends the line of a table. Answers whether standard output took that; where not, why has been said.
+fn is_ended<R: Print>(rt: &R) -> bool {
+    match rt.write_all(b"\n") {
+        Ok(()) => true,
+        Err(e) => {
+            say::failed(b"standard output", e);
+            false
+        }
+    }
+}
+
 // What was taken with a table too.
-fn take(mut t: Taken, argument: usize, given: bool, centres: &[f32]) -> Taken {
+fn take<R: Files + Env + Print>(
+    rt: &R,
+    mut t: Taken,
+    argument: usize,
+    given: bool,
+    centres: &[f32],
+) -> Taken {
     if t.short {
         return t;
     }
-    if !inspect(argument, given, centres) {
+    if !inspect(rt, argument, given, centres) {
         t.bad = std::num::wrapping_add_usize(t.bad, 1);
     }
-    if !io::write_all(1, b"\n") {
-        os::fail(b"standard output");
+    if !is_ended(rt) {
         t.short = true;
     }
     t
@@ -236,7 +250,7 @@ fn is_table(i: usize, centres: usize) -> bool {
 }
 
 // The tables in turn. Argument `from` names the file of centres, 0 where there is none.
-fn take_all(count: usize, from: usize, centres: &[f32]) -> Taken {
+fn take_all<R: Files + Env + Print>(rt: &R, count: usize, from: usize, centres: &[f32]) -> Taken {
     let mut t = Taken {
         bad: 0,
         short: false,
@@ -244,7 +258,7 @@ fn take_all(count: usize, from: usize, centres: &[f32]) -> Taken {
     let mut i = 1;
     while i < count {
         if is_table(i, from) {
-            t = take(t, i, 0 < from, centres);
+            t = take(rt, t, i, 0 < from, centres);
         }
         i += 1;
     }
@@ -263,29 +277,29 @@ fn say_bad(bad: usize, tables: usize) {
 }
 
 // Takes what was asked for. Where a file of centres cannot be used, no table is looked at.
-fn run(a: Asked, count: usize) {
-    let c = centres::from_argument(a.centres);
+fn run<R: Files + Env + Print>(rt: &R, a: Asked, count: usize) {
+    let c = centres::from_argument(rt, a.centres);
     if c.failed {
         return;
     }
     let values = centres::values(c);
     let k = c.count;
-    let t = take_all(count, a.centres, &values[..k]);
+    let t = take_all(rt, count, a.centres, &values[..k]);
     if !t.short {
         say_bad(t.bad, a.tables);
     }
 }
 
-fn main() {
-    let count = os::arg_count();
-    let a = read_arguments(count);
+fn main(rt: HostRuntime) {
+    let count = arguments::count(&rt, usize::MAX);
+    let a = read_arguments(&rt, count);
     if !is_right(a) {
         say::wrong_use(b"inspect");
         return;
     }
     if a.help {
-        usage();
+        usage(&rt);
         return;
     }
-    run(a, count);
+    run(&rt, a, count);
 }

@@ -1,5 +1,6 @@
 // What the command line asks for.
-use console::say;
+use console::{arguments, say};
+use std::rt::Env;
 
 // Arguments by their number on the command line, 0 where there is none. `wrong` says that something is, and what has been said.
 #[derive(Clone, Copy)]
@@ -86,18 +87,19 @@ fn with_word(mut a: Asked, word: &[u8], i: usize) -> Asked {
 }
 
 // What is asked for with argument i too.
-fn with(a: Asked, i: usize) -> Asked {
+fn with<R: Env>(rt: &R, a: Asked, i: usize) -> Asked {
     let mut word = io::buffer();
-    let n = os::arg(i, &mut word);
-    if os::errno() != 0 {
+    let given = arguments::read(rt, i, &mut word);
+    if !given.whole {
         return wrong(a, b"an argument", b"longer than 4096 bytes");
     }
+    let n = given.bytes;
     with_word(a, &word[..n], i)
 }
 
 // Reads all arguments.
-pub fn read() -> Asked {
-    let count = os::arg_count();
+pub fn read<R: Env>(rt: &R) -> Asked {
+    let count = arguments::count(rt, usize::MAX);
     let mut a = Asked {
         first: 0,
         second: 0,
@@ -108,7 +110,7 @@ pub fn read() -> Asked {
     };
     let mut i = 1;
     while i < count {
-        a = with(a, i);
+        a = with(rt, a, i);
         i += 1;
     }
     a

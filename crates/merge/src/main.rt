@@ -3,7 +3,7 @@
 // Both tables are read and merged before a file is made. The file is written under its name with .part at its end, and gets its name once
 // every byte has reached the disk; where anything fails, the .part is removed (console/src/output.rt). A name that is there already is
 // left alone; with --force the whole file takes the place of a file that has it, which may be one of the two tables.
-// A Rattle program has no exit status: everything that goes wrong is said on standard error, and nothing else is, so the shell
+// It ends with status 0 in any case: everything that goes wrong is said on standard error, and nothing else is, so the shell
 // script tools/merge turns words there into status 1, and into 2 where the last of them are those of wrong use.
 #![tactic(auto)]
 
@@ -15,8 +15,11 @@ use console::{crc, file, output, say, words};
 use sounder::MergeAnswer;
 use sounder::images::sounder_from_bytes;
 use sounder::merges::sounder_merge;
+use std::fs::File;
+use std::io::{Print, Write};
+use std::rt::{Env, Files};
 
-fn usage() {
+fn usage<R: Print>(rt: &R) {
     say::text(
         1,
         b"merge A B OUT [--force]: merges the coefficient tables A and B to a table of every entry of both, ascending by pitch\n",
@@ -29,30 +32,27 @@ fn usage() {
         1,
         b"The merged table has A's name. The noise band spans of both must agree. Numbered refusals are in README.md.\n",
     );
-    let said = io::write_all(
-        1,
+    say::last(
+        rt,
         b"It writes over nothing without --force. Status (of tools/merge): 0 done, 1 refused or failed, 2 wrong use.\n",
     );
-    if !said {
-        os::fail(b"standard output");
-    }
 }
 
 // Says which files are refused: one of the two tables, or both where they do not go together.
-fn say_refused(a: Asked, image: u32) {
+fn say_refused<R: Env>(rt: &R, a: Asked, image: u32) {
     match image {
-        1 => say::argument(2, a.first),
-        2 => say::argument(2, a.second),
+        1 => say::argument(rt, 2, a.first),
+        2 => say::argument(rt, 2, a.second),
         _ => {
-            say::argument(2, a.first);
+            say::argument(rt, 2, a.first);
             say::text(2, b" and ");
-            say::argument(2, a.second);
+            say::argument(rt, 2, a.second);
         }
     }
 }
 
-fn refuse(a: Asked, m: MergeAnswer) {
-    say_refused(a, m.image);
+fn refuse<R: Env>(rt: &R, a: Asked, m: MergeAnswer) {
+    say_refused(rt, a, m.image);
     say::text(2, b": ");
     let answer = m.answer;
     words::refusal(2, answer);
@@ -60,14 +60,14 @@ fn refuse(a: Asked, m: MergeAnswer) {
 }
 
 // What was read of a file, in words.
-fn describe(argument: usize, image: &[u8]) {
-    say::argument(1, argument);
+fn describe<R: Env>(rt: &R, argument: usize, image: &[u8]) {
+    say::argument(rt, 1, argument);
     say::text(1, b": ");
     let read = sounder_from_bytes(image);
     words::accepted(1, table::read::name(image), read, image.len());
 }
 
-fn report(path: &[u8], entries: usize, merged: &[u8]) {
+fn report<R: Print>(rt: &R, path: &[u8], entries: usize, merged: &[u8]) {
     say::text(1, b"wrote ");
     say::name(1, path);
     say::text(1, b": ");
@@ -75,84 +75,105 @@ fn report(path: &[u8], entries: usize, merged: &[u8]) {
     say::number(1, merged.len() as u64);
     say::text(1, b" bytes, CRC-32 of the file ");
     io::print_hex(1, crc::finish(crc::update(crc::START, merged)) as u64, 8);
-    if !io::write_all(1, b"\n") {
-        os::fail(b"standard output");
+    say::last(rt, b"\n");
+}
+
+// Whether every byte was written into the part. Where not, why has been said.
+fn is_written<W: Write>(file: &mut W, part: &[u8], merged: &[u8]) -> bool {
+    match file.write_all(merged) {
+        Ok(()) => true,
+        Err(e) => {
+            say::failed(part, e);
+            false
+        }
     }
 }
 
 // Writes the merged table into the part, which becomes the file.
-fn write(force: bool, path: &[u8], part: &[u8], entries: usize, merged: &[u8]) {
-    let fd = output::open(Program::Merge, part);
-    if fd < 0 {
-        return;
-    }
-    let whole = io::write_all(fd, merged);
-    if !whole {
-        say::failed(part);
-    }
-    if output::keep(Program::Merge, fd, path, part, whole, force) {
-        report(path, entries, merged);
+fn write<R: Files<File = File> + Print>(
+    rt: &R,
+    force: bool,
+    path: &[u8],
+    part: &[u8],
+    entries: usize,
+    merged: &[u8],
+) {
+    match output::open(rt, Program::Merge, part) {
+        Some(mut file) => {
+            let whole = is_written(&mut file, part, merged);
+            if output::keep(rt, Program::Merge, file, path, part, whole, force) {
+                report(rt, path, entries, merged);
+            }
+        }
+        None => {}
     }
 }
 
 // Merges what was read. Every table fits the target.
-fn merge(a: Asked, path: &[u8], part: &[u8], first: &[u8], second: &[u8]) {
+fn merge<R: Files<File = File> + Env + Print>(
+    rt: &R,
+    a: Asked,
+    path: &[u8],
+    part: &[u8],
+    first: &[u8],
+    second: &[u8],
+) {
     let mut target = io::large_buffer();
     let m = sounder_merge(first, second, &mut target);
     let answer = m.answer;
     if answer.number != 0 {
-        refuse(a, m);
+        refuse(rt, a, m);
         return;
     }
-    describe(a.first, first);
-    describe(a.second, second);
+    describe(rt, a.first, first);
+    describe(rt, a.second, second);
     let n = answer.second;
     if n <= 65536 {
-        write(a.force, path, part, answer.first, &target[..n]);
+        write(rt, a.force, path, part, answer.first, &target[..n]);
     }
 }
 
 // Reads both tables, each into a byte more than a table can have, so that one which is too long is known.
-fn read_both(a: Asked, path: &[u8], part: &[u8]) {
+fn read_both<R: Files<File = File> + Env + Print>(rt: &R, a: Asked, path: &[u8], part: &[u8]) {
     let mut first = [0u8; 65537];
-    let r = file::read_argument(a.first, &mut first);
+    let r = file::read_argument(rt, a.first, &mut first);
     if r.failed {
         return;
     }
     let mut second = [0u8; 65537];
-    let s = file::read_argument(a.second, &mut second);
+    let s = file::read_argument(rt, a.second, &mut second);
     if s.failed {
         return;
     }
     let n = r.bytes;
     let k = s.bytes;
-    merge(a, path, part, &first[..n], &second[..k]);
+    merge(rt, a, path, part, &first[..n], &second[..k]);
 }
 
 // Whether the file can be written is asked before a table is read.
-fn run(a: Asked) {
+fn run<R: Files<File = File> + Env + Print>(rt: &R, a: Asked) {
     let mut path = io::buffer();
-    let n = output::name(Program::Merge, a.out, a.force, &mut path);
+    let n = output::name(rt, Program::Merge, a.out, a.force, &mut path);
     if n == 0 {
         return;
     }
     let mut part = io::buffer();
-    let k = output::part(a.out, &mut part);
-    read_both(a, &path[..n], &part[..k]);
+    let k = output::part(rt, a.out, &mut part);
+    read_both(rt, a, &path[..n], &part[..k]);
 }
 
-fn main() {
-    let a = asked::read();
+fn main(rt: HostRuntime) {
+    let a = asked::read(&rt);
     if !asked::is_right(a) {
         say::wrong_use(b"merge");
         return;
     }
-    if output::standard_output() < 0 {
+    if output::standard_output(&rt.stdout()) < 0 {
         return;
     }
     if a.help {
-        usage();
+        usage(&rt);
         return;
     }
-    run(a);
+    run(&rt, a);
 }

@@ -13,6 +13,9 @@ mod tally;
 ghost use Rattle.std.specs.Prelude.{◌≡◌, length};
 
 use list::{count, first};
+use std::fs::File;
+use std::io::Read;
+use std::rt::Files;
 use tally::{Tally, more, same_count, start};
 
 fn record(kind: u32, t: Tally, r: &[u8]) -> Tally {
@@ -32,31 +35,59 @@ fn buffer() -> [u8; 131072]
     [0; 131072]
 }
 
+// One read into the rest of a buffer; 0 where it fails.
+fn read_rest<F: Read>(file: &mut F, buf: &mut [u8], done: usize) -> usize {
+    if buf.len() <= done {
+        return 0;
+    }
+    match file.read(&mut buf[done..]) {
+        Ok(n) => n,
+        Err(_) => 0,
+    }
+}
+
+// Reads until the buffer is full, the file ends or a read fails, and answers how many bytes there are.
+fn read_full<F: Read>(file: &mut F, buf: &mut [u8]) -> usize {
+    let mut done = 0;
+    while done < buf.len() {
+        let n = read_rest(file, buf, done);
+        if n < 1 {
+            return done;
+        }
+        if buf.len() - done < n {
+            return done;
+        }
+        done += n;
+    }
+    done
+}
+
 // Reads as many bytes as a record has, and replays it.
-fn record_of(kind: u32, fd: i32, t: Tally, n: usize) -> Tally {
+fn record_of<F: Read>(kind: u32, file: &mut F, t: Tally, n: usize) -> Tally {
     let mut bytes = buffer();
     if bytes.len() < n {
         return same_count(t, b"a record too long for the replay", 0, 0, n);
     }
-    let got = io::read_full(fd, &mut bytes[..n]);
+    let got = read_full(file, &mut bytes[..n]);
     let t = same_count(t, b"bytes of the record", 0, got, n);
     record(kind, t, first(&bytes, n))
 }
 
 // A word of the file.
-fn next(fd: i32) -> usize {
+fn next<F: Read>(file: &mut F) -> usize {
     let mut bytes = [0u8; 4];
-    io::read_full(fd, &mut bytes);
+    read_full(file, &mut bytes);
     count(&bytes, 0)
 }
 
 // The records of a list, one after another.
-fn records(kind: u32, fd: i32) -> Tally {
-    let n = next(fd);
+fn records<F: Read>(kind: u32, file: &mut F) -> Tally {
+    let n = next(file);
     let mut t = start();
     let mut i = 0;
     while i < n {
-        t = record_of(kind, fd, t, next(fd));
+        let length = next(file);
+        t = record_of(kind, file, t, length);
         t.record = more(t.record, 1);
         i += 1;
     }
@@ -94,25 +125,24 @@ fn conclude(name: &[u8], t: Tally) {
     say(t.differences, b" differences\n");
 }
 
-fn replay(kind: u32, path: &[u8]) {
-    let fd = os::open_read(path);
-    if fd < 0 {
-        os::fail(path);
-        return;
+fn replay<R: Files + Eprint>(rt: &R, kind: u32, path: &str) {
+    match File::open(rt, path) {
+        Ok(mut file) => conclude(path.as_bytes(), records(kind, &mut file)),
+        Err(e) => {
+            let _ = eprintln!(rt; "{path}: {e}");
+        }
     }
-    conclude(path, records(kind, fd));
-    libc::close(fd);
 }
 
-fn main() {
-    replay(0, b"reading");
-    replay(1, b"merging");
-    replay(2, b"playing");
+fn main(rt: HostRuntime) {
+    replay(&rt, 0, "reading");
+    replay(&rt, 1, "merging");
+    replay(&rt, 2, "playing");
     io::write_all(
         1,
         b"In each record of a damaged list one answer is wrong:\n",
     );
-    replay(0, b"reading.damaged");
-    replay(1, b"merging.damaged");
-    replay(2, b"playing.damaged");
+    replay(&rt, 0, "reading.damaged");
+    replay(&rt, 1, "merging.damaged");
+    replay(&rt, 2, "playing.damaged");
 }

@@ -2,7 +2,7 @@
 //
 // The file is written under its name with .part at its end, and gets its name once every byte has reached the disk; where anything
 // fails, the .part is removed (console/src/output.rt). A name that is there already is left alone.
-// A Rattle program has no exit status: everything that goes wrong is said on standard error, and nothing else is, so the shell
+// It ends with status 0 in any case: everything that goes wrong is said on standard error, and nothing else is, so the shell
 // script tools/tone turns words there into status 1, and into 2 where the last of them are those of wrong use.
 #![tactic(auto)]
 
@@ -20,6 +20,9 @@ use playing::bits;
 use sounder::Answer;
 use sounder::images::{sounder_desk, sounder_from_bytes};
 use sounder::voices::{sounder_make, sounder_reseed};
+use std::fs::File;
+use std::io::Print;
+use std::rt::{Env, Files};
 use voice::{Voice, rate_ok};
 
 // How it is called, the voice and its rate.
@@ -79,7 +82,7 @@ fn usage_change() {
 }
 
 // What --help prints.
-fn usage() {
+fn usage<R: Print>(rt: &R) {
     usage_voice();
     usage_sound();
     usage_change();
@@ -87,13 +90,10 @@ fn usage() {
         1,
         b"Numbers are decimal, with at most 15 digits. Numbered refusals are in README.md.\n",
     );
-    let said = io::write_all(
-        1,
+    say::last(
+        rt,
         b"It writes over nothing. Status (of tools/tone): 0 done, 1 refused or failed, 2 wrong use.\n",
     );
-    if !said {
-        os::fail(b"standard output");
-    }
 }
 
 // What was read, in words.
@@ -176,17 +176,23 @@ fn pitches_ok(o: Options) -> bool {
 }
 
 // Plays a voice that was made.
-fn play_voice(o: Options, voice: Voice) {
+fn play_voice<R: Files<File = File> + Env + Print>(rt: &R, o: Options, voice: Voice) {
     if o.seeded {
         let again = sounder_reseed(voice, o.seed);
         let seeded = again.voice;
-        output::write(o, seeded);
+        output::write(rt, o, seeded);
     } else {
-        output::write(o, voice);
+        output::write(rt, o, voice);
     }
 }
 
-fn play_image(o: Options, image: &[u8], centres: &[f32], l: Loudness) {
+fn play_image<R: Files<File = File> + Env + Print>(
+    rt: &R,
+    o: Options,
+    image: &[u8],
+    centres: &[f32],
+    l: Loudness,
+) {
     let read = sounder_from_bytes(image);
     if read.number != 0 {
         words::refusal(2, read);
@@ -219,45 +225,45 @@ fn play_image(o: Options, image: &[u8], centres: &[f32], l: Loudness) {
     describe_pitch(o);
     describe_gains(o, set.k);
     if o.plan == 0 {
-        play_voice(o, voice);
+        play_voice(rt, o, voice);
     } else {
         plan::describe(o.minute, l);
-        play_voice(plan::with_gain(o, l), voice);
+        play_voice(rt, plan::with_gain(o, l), voice);
     }
 }
 
-fn run(o: Options) {
+fn run<R: Files<File = File> + Env + Print>(rt: &R, o: Options) {
     let mut image = [0u8; 65537];
-    let r = file::read_argument(o.table, &mut image);
+    let r = file::read_argument(rt, o.table, &mut image);
     if r.failed {
         return;
     }
     let n = r.bytes;
-    let c = centres::from_argument(o.centres);
+    let c = centres::from_argument(rt, o.centres);
     if c.failed {
         return;
     }
     let values = centres::values(c);
     let k = c.count;
-    let l = plan::at_minute(o.plan, o.minute);
+    let l = plan::at_minute(rt, o.plan, o.minute);
     if l.failed {
         return;
     }
-    play_image(o, &image[..n], &values[..k], l);
+    play_image(rt, o, &image[..n], &values[..k], l);
 }
 
-fn main() {
-    let o = options::read();
+fn main(rt: HostRuntime) {
+    let o = options::read(&rt);
     if !options::is_right(o) {
         say::wrong_use(b"tone");
         return;
     }
-    if console::output::standard_output() < 0 {
+    if console::output::standard_output(&rt.stdout()) < 0 {
         return;
     }
     if o.help {
-        usage();
+        usage(&rt);
         return;
     }
-    run(o);
+    run(&rt, o);
 }

@@ -1,7 +1,8 @@
 // What the command line asks for.
 use console::decimal::{Decimal, DecimalRead, Whole};
 use console::narrow::value;
-use console::{decimal, plans, say};
+use console::{arguments, decimal, plans, say};
+use std::rt::Env;
 
 // Arguments by their number on the command line, 0 where there is none. `skip` says that the next argument was a value, `given` which
 // options were given, by their number below.
@@ -319,12 +320,13 @@ fn wrong_file(mut o: Options, option: u32, why: &[u8]) -> Options {
 }
 
 // The file of centres or of a plan, which argument `i` names.
-fn set_file(mut o: Options, option: u32, i: usize) -> Options {
+fn set_file<R: Env>(rt: &R, mut o: Options, option: u32, i: usize) -> Options {
     let mut word = io::buffer();
-    let n = os::arg(i, &mut word);
-    if os::errno() != 0 {
+    let given = arguments::read(rt, i, &mut word);
+    if !given.whole {
         return wrong_file(o, option, b"its value is longer than 4096 bytes");
     }
+    let n = given.bytes;
     if n == 0 {
         return wrong_file(o, option, b"its value is empty, and names no file");
     }
@@ -345,16 +347,16 @@ fn set_file(mut o: Options, option: u32, i: usize) -> Options {
 }
 
 // An option with the value that stands in argument `i`.
-fn set(mut o: Options, option: u32, i: usize) -> Options {
+fn set<R: Env>(rt: &R, mut o: Options, option: u32, i: usize) -> Options {
     if option == 8 {
-        return set_file(o, option, i);
+        return set_file(rt, o, option, i);
     }
     if option == 11 {
-        return set_file(o, option, i);
+        return set_file(rt, o, option, i);
     }
     let mut text = [0u8; 64];
-    let n = os::arg(i, &mut text);
-    if os::errno() != 0 {
+    let given = arguments::read(rt, i, &mut text);
+    if !given.whole {
         return wrong_value(
             o,
             option,
@@ -362,6 +364,7 @@ fn set(mut o: Options, option: u32, i: usize) -> Options {
             b"too long: these are its first 64 bytes, and a number has at most 15 digits",
         );
     }
+    let n = given.bytes;
     if option == 1 {
         return set_whole(o, option, &text[..n]);
     }
@@ -396,7 +399,7 @@ fn place(mut o: Options, word: &[u8], i: usize) -> Options {
     wrong(o, word, b"one file too many")
 }
 
-fn take_word(mut o: Options, word: &[u8], i: usize, count: usize) -> Options {
+fn take_word<R: Env>(rt: &R, mut o: Options, word: &[u8], i: usize, count: usize) -> Options {
     if asks_for_help(word) {
         o.help = true;
         return o;
@@ -424,20 +427,21 @@ fn take_word(mut o: Options, word: &[u8], i: usize, count: usize) -> Options {
         return wrong(o, word, b"its value is missing");
     }
     o.skip = true;
-    set(o, option, i + 1)
+    set(rt, o, option, i + 1)
 }
 
-fn take_argument(mut o: Options, i: usize, count: usize) -> Options {
+fn take_argument<R: Env>(rt: &R, mut o: Options, i: usize, count: usize) -> Options {
     if o.skip {
         o.skip = false;
         return o;
     }
     let mut word = io::buffer();
-    let n = os::arg(i, &mut word);
-    if os::errno() != 0 {
+    let given = arguments::read(rt, i, &mut word);
+    if !given.whole {
         return wrong(o, b"an argument", b"longer than 4096 bytes");
     }
-    take_word(o, &word[..n], i, count)
+    let n = given.bytes;
+    take_word(rt, o, &word[..n], i, count)
 }
 
 // Whether a time was given only for a retune, and within the tone; what does not go together has been said.
@@ -529,12 +533,12 @@ pub fn is_right(o: Options) -> bool {
 }
 
 // Reads all arguments. What is wrong with them has been said where `failed` is set.
-pub fn read() -> Options {
-    let count = os::arg_count();
+pub fn read<R: Env>(rt: &R) -> Options {
+    let count = arguments::count(rt, usize::MAX);
     let mut o = defaults();
     let mut i = 1;
     while i < count {
-        o = take_argument(o, i, count);
+        o = take_argument(rt, o, i, count);
         i += 1;
     }
     o

@@ -8,6 +8,9 @@ use crate::{sink, wav};
 use console::output::Program;
 use console::{crc, output, say, words};
 use sounder::Answer;
+use std::fs::File;
+use std::io::{Print, Write};
+use std::rt::{Env, Files};
 use voice::Voice;
 
 // How many samples a time has: whole ones, of up to 60 seconds at up to 192,000 a second, so that each number of a sample is an f32.
@@ -61,7 +64,7 @@ fn progress(played: u32, total: u32) {
 
 fn is_well(run: Run) -> bool {
     let s = run.sink;
-    if s.short {
+    if sink::is_short(s) {
         return false;
     }
     run.number == 0
@@ -77,12 +80,12 @@ fn block_end(from: u32, to: u32) -> u32
 }
 
 // The samples from one up to another, in blocks, up to the first block that fails.
-fn fill(o: Options, fd: i32, start: Run, from: u32, to: u32, total: u32) -> Run {
+fn fill<W: Write>(o: Options, file: &mut W, start: Run, from: u32, to: u32, total: u32) -> Run {
     let mut run = start;
     let mut played = from;
     while played < to {
         let end = block_end(played, to);
-        run = block(o, fd, run, played, total, (end - played) as usize);
+        run = block(o, file, run, played, total, (end - played) as usize);
         if !is_well(run) {
             return run;
         }
@@ -100,12 +103,12 @@ fn say_retuned(rate: u32, played: u32) {
 }
 
 // All samples, with the retune between two of them where one is asked for.
-fn fill_all(o: Options, fd: i32, start: Run, total: u32) -> Run {
+fn fill_all<W: Write>(o: Options, file: &mut W, start: Run, total: u32) -> Run {
     if !o.retunes {
-        return fill(o, fd, start, 0, total, total);
+        return fill(o, file, start, 0, total, total);
     }
     let n = before_retune(o, total);
-    let before = fill(o, fd, start, 0, n, total);
+    let before = fill(o, file, start, 0, n, total);
     if !is_well(before) {
         return before;
     }
@@ -114,11 +117,11 @@ fn fill_all(o: Options, fd: i32, start: Run, total: u32) -> Run {
         return after;
     }
     say_retuned(o.retune, n);
-    fill(o, fd, after, n, total, total)
+    fill(o, file, after, n, total, total)
 }
 
 // The header of a file of `total` samples.
-fn header(fd: i32, rate: u32, total: u32) -> Sink {
+fn header<W: Write>(file: &mut W, rate: u32, total: u32) -> Sink {
     let s = sink::new();
     if 0x1000_0000 < total {
         return s;
@@ -126,30 +129,33 @@ fn header(fd: i32, rate: u32, total: u32) -> Sink {
     if 0x1000_0000 < rate {
         return s;
     }
-    let s1 = sink::send(s, fd, &wav::riff(50 + total * 4));
-    let s2 = sink::send(s1, fd, &wav::format(rate, rate * 4));
-    let s3 = sink::send(s2, fd, &wav::fact(total));
-    sink::send(s3, fd, &wav::samples(total * 4))
+    let s1 = sink::send(s, file, &wav::riff(50 + total * 4));
+    let s2 = sink::send(s1, file, &wav::format(rate, rate * 4));
+    let s3 = sink::send(s2, file, &wav::fact(total));
+    sink::send(s3, file, &wav::samples(total * 4))
 }
 
 // The header, then the samples.
-fn fill_file(o: Options, fd: i32, voice: Voice, total: u32) -> Run {
-    let sink = header(fd, o.rate, total);
+fn fill_file<W: Write>(o: Options, file: &mut W, voice: Voice, total: u32) -> Run {
+    let sink = header(file, o.rate, total);
     let start = Run {
         voice,
         sink,
         peak: 0,
         number: 0,
     };
-    fill_all(o, fd, start, total)
+    fill_all(o, file, start, total)
 }
 
 // Whether every sample was played and written. Where not, why has been said.
 fn is_whole(run: Run, part: &[u8]) -> bool {
     let s = run.sink;
-    if s.short {
-        say::failed(part);
-        return false;
+    match s.failure {
+        Some(e) => {
+            say::failed(part, e);
+            return false;
+        }
+        None => {}
     }
     if run.number != 0 {
         words::refusal(
@@ -166,7 +172,7 @@ fn is_whole(run: Run, part: &[u8]) -> bool {
     true
 }
 
-fn report(path: &[u8], o: Options, run: Run, total: u32) {
+fn report<R: Print>(rt: &R, path: &[u8], o: Options, run: Run, total: u32) {
     let s = run.sink;
     say::text(1, b"wrote ");
     say::name(1, path);
@@ -183,32 +189,37 @@ fn report(path: &[u8], o: Options, run: Run, total: u32) {
             b"\nthe peak is above 1, where players cut it off: a lower --gain helps",
         );
     }
-    if !io::write_all(1, b"\n") {
-        os::fail(b"standard output");
-    }
+    say::last(rt, b"\n");
 }
 
 // Plays into the part, which becomes the file once it is whole, and is removed where it is not.
-fn make_file(o: Options, voice: Voice, path: &[u8], part: &[u8]) {
-    let fd = output::open(Program::Tone, part);
-    if fd < 0 {
-        return;
-    }
-    let total = samples(o.micros, o.rate);
-    let run = fill_file(o, fd, voice, total);
-    let whole = is_whole(run, part);
-    if output::keep(Program::Tone, fd, path, part, whole, false) {
-        report(path, o, run, total);
+fn make_file<R: Files<File = File> + Print>(
+    rt: &R,
+    o: Options,
+    voice: Voice,
+    path: &[u8],
+    part: &[u8],
+) {
+    match output::open(rt, Program::Tone, part) {
+        Some(mut file) => {
+            let total = samples(o.micros, o.rate);
+            let run = fill_file(o, &mut file, voice, total);
+            let whole = is_whole(run, part);
+            if output::keep(rt, Program::Tone, file, path, part, whole, false) {
+                report(rt, path, o, run, total);
+            }
+        }
+        None => {}
     }
 }
 
-pub fn write(o: Options, voice: Voice) {
+pub fn write<R: Files<File = File> + Env + Print>(rt: &R, o: Options, voice: Voice) {
     let mut path = io::buffer();
-    let n = output::name(Program::Tone, o.out, false, &mut path);
+    let n = output::name(rt, Program::Tone, o.out, false, &mut path);
     if n == 0 {
         return;
     }
     let mut part = io::buffer();
-    let k = output::part(o.out, &mut part);
-    make_file(o, voice, &path[..n], &part[..k]);
+    let k = output::part(rt, o.out, &mut part);
+    make_file(rt, o, voice, &path[..n], &part[..k]);
 }

@@ -6,6 +6,7 @@ use console::{file, plans, say, words};
 use quiet::Window;
 use sounder::Answer;
 use sounder::plans::sounder_quiet_gain;
+use std::rt::{Env, Files};
 
 // What the plan gives: a gain, and the window that holds the minute with how many lines stand above its line; or that none holds it.
 // `failed` says that the plan was not read or is refused, and why has been said.
@@ -40,8 +41,8 @@ fn failure() -> Loudness {
 }
 
 // Says the plan's file and one of its lines, by how many stand above it.
-fn say_line(argument: usize, above: usize) {
-    say::argument(2, argument);
+fn say_line<R: Env>(rt: &R, argument: usize, above: usize) {
+    say::argument(rt, 2, argument);
     say::text(2, b": line ");
     say::number(2, std::num::wrapping_add_usize(above, 1) as u64);
     say::text(2, b": ");
@@ -72,11 +73,11 @@ fn above_of(p: Planned, i: usize) -> usize {
 }
 
 // Says what is refused: a window with its line, or the minute.
-fn refuse(argument: usize, p: Planned, a: Answer) -> Loudness {
+fn refuse<R: Env>(rt: &R, argument: usize, p: Planned, a: Answer) -> Loudness {
     if a.number == 20 {
         say::text(2, b"--minute: ");
     } else {
-        say_line(argument, above_of(p, a.first));
+        say_line(rt, argument, above_of(p, a.first));
     }
     say_refusal(a);
     failure()
@@ -99,24 +100,24 @@ fn held(p: Planned, i: usize, gain: f32) -> Loudness {
 }
 
 // Asks the plan for the minute.
-fn ask(argument: usize, minute: u32, p: Planned) -> Loudness {
+fn ask<R: Env>(rt: &R, argument: usize, minute: u32, p: Planned) -> Loudness {
     let plan = p.plan;
     let q = sounder_quiet_gain(plan, minute);
     let a = q.answer;
     if a.number != 0 {
-        return refuse(argument, p, a);
+        return refuse(rt, argument, p, a);
     }
     held(p, a.first, q.gain)
 }
 
 // What a text of windows gives.
-fn from_text(argument: usize, minute: u32, text: &[u8]) -> Loudness {
+fn from_text<R: Env>(rt: &R, argument: usize, minute: u32, text: &[u8]) -> Loudness {
     let p = plans::read(text);
     let fault = p.fault;
     match fault {
-        Fault::NoFault => ask(argument, minute, p),
+        Fault::NoFault => ask(rt, argument, minute, p),
         Fault::BadLine(above, reason) => {
-            say_line(argument, above);
+            say_line(rt, argument, above);
             say_reason(reason);
             failure()
         }
@@ -124,22 +125,22 @@ fn from_text(argument: usize, minute: u32, text: &[u8]) -> Loudness {
 }
 
 // The gain of a minute by the plan in the file that an argument names; where there is no such argument, that of no plan.
-pub fn at_minute(argument: usize, minute: u32) -> Loudness {
+pub fn at_minute<R: Files + Env>(rt: &R, argument: usize, minute: u32) -> Loudness {
     if argument == 0 {
         return full();
     }
     let mut text = [0u8; 65537];
-    let r = file::read_argument(argument, &mut text);
+    let r = file::read_argument(rt, argument, &mut text);
     if r.failed {
         return failure();
     }
     let k = r.bytes;
     if k == 65537 {
-        say::argument(2, argument);
+        say::argument(rt, 2, argument);
         say::text(2, b": longer than 65536 bytes, and a plan is not\n");
         return failure();
     }
-    from_text(argument, minute, &text[..k])
+    from_text(rt, argument, minute, &text[..k])
 }
 
 fn say_day(day: u32) {

@@ -4,6 +4,7 @@ ghost use Rattle.std.specs.Prelude.{◌≡◌, length};
 use crate::options::Options;
 use crate::sink::{Sink, send};
 use sounder::voices::{sounder_play, sounder_retune};
+use std::io::Write;
 use table::desk::larger;
 use voice::{Shape, Voice};
 
@@ -107,7 +108,14 @@ fn shape(o: Options, samples: usize) -> Shape {
 }
 
 // Plays the n samples from `first` on, and writes them. n is at most 128.
-pub fn block(o: Options, fd: i32, run: Run, first: u32, total: u32, n: usize) -> Run {
+pub fn block<W: Write>(
+    o: Options,
+    file: &mut W,
+    run: Run,
+    first: u32,
+    total: u32,
+    n: usize,
+) -> Run {
     if 128 < n {
         return run;
     }
@@ -133,7 +141,7 @@ pub fn block(o: Options, fd: i32, run: Run, first: u32, total: u32, n: usize) ->
     let bytes = bytes_of(&out);
     let k = n * 4;
     let before = run.sink;
-    let sink = send(before, fd, &bytes[..k]);
+    let sink = send(before, file, &bytes[..k]);
     Run {
         voice: after,
         sink,
