@@ -1,3 +1,1 @@
-pub mod Borrowed
 pub mod BoundaryLaws
-pub mod Fields
