@@ -1,5 +1,5 @@
 -- `quiet_check::bits` is safe: what equals itself is no NaN. Assumes nothing.
-use Rattle.std.proofs.Common.{Bool, not, T, sym, ◌∙◌, subst, rules}
+use Rattle.std.proofs.Common.{Bool, not, T, sym, ◌∙◌, subst}
 use Rattle.float.proofs.Extremes.{nan-test}
 use Rattle.quiet_check.proofs.bits.Goals as goal
 

@@ -1,4 +1,4 @@
-use Rattle.std.proofs.Common.{◌-◌, ◌≤◌, rules}
+use Rattle.std.proofs.Common.{◌-◌, ◌≤◌}
 use Rattle.quiet_check.proofs.week.Given as goal
 
 abbrev pub invariant-loop-minute : goal.invariant-loop-minute

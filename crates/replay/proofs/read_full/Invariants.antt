@@ -1,4 +1,4 @@
-use Rattle.std.proofs.Common.{length, ◌-◌, ◌≤◌}
+use Rattle.std.proofs.Common.{length, ◌-◌}
 use Rattle.replay.proofs.read_full.Given as goal
 
 abbrev pub decreases-loop-done : goal.decreases-loop-done

@@ -1,6 +1,5 @@
 use mathlib.Core.Path.{sym}
 use lib.Seq.{length-take-le}
-use borrow.Author.Rules.{rules}
 use Rattle.run_list.proofs.in_block.Goals as goal
 
 pub slice_bounds-played-end : goal.slice_bounds-played-end

@@ -1,6 +1,5 @@
 use mathlib.Core.Path.{sym}
 use lib.Seq.{length-take-le}
-use borrow.Author.Rules.{rules}
 use Rattle.run_list.proofs.merges.merged_into.Goals as goal
 
 pub slice_bounds-sounder_merge-end-2 : goal.slice_bounds-sounder_merge-end-2
