@@ -6,7 +6,7 @@
 ghost use Rattle.std.specs.Prelude.{◌≡◌, true, IfSome};
 ghost use Rattle.std.specs.Fd.{file_raw_fd};
 ghost use Rattle.io.specs.Counts.{IsPrefixLen};
-ghost use Rattle.console.specs.Output.{StandardOutput, Descriptor, PartNamed};
+ghost use Rattle.console.specs.Output.{StandardOutput, Descriptor, IsOpen, PartNamed, number_or_none};
 
 use crate::{arguments, paths, say};
 use std::fs::{File, OpenFile};
@@ -181,7 +181,8 @@ fn no_part(by: Program, part: &[u8], e: Error) {
 
 // Makes the part, and answers the file, which is open by a descriptor; nothing where it cannot be made, and why has been said.
 pub fn open<R: Files<File = File>>(rt: &R, by: Program, part: &[u8]) -> Option<File>
-    ensures { IfSome result (λ file. Descriptor (file_raw_fd file)) }
+    ensures number { Descriptor (number_or_none result) }
+    ensures open { IfSome result (λ file. IsOpen (file_raw_fd file)) }
 {
     match paths::create(rt, part) {
         Ok(file) => {
