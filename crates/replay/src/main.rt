@@ -4,7 +4,7 @@
 #![tactic(auto)]
 
 mod list;
-mod merging;
+mod merges;
 mod places;
 mod playing;
 mod reading;
@@ -23,7 +23,7 @@ fn record(kind: u32, t: Tally, r: &[u8]) -> Tally {
         return reading::record(t, r);
     }
     if kind == 1 {
-        return merging::record(t, r);
+        return merges::record(t, r);
     }
     playing::record(t, r)
 }

@@ -1,6 +1,6 @@
--- `replay::merging::merging` is safe and ends. Assumes nothing.
+-- `replay::merges::merging` is safe and ends. Assumes nothing.
 use Rattle.replay.proofs.Parts.{part_length, kept-length}
-use Rattle.replay.proofs.merging.merging.Goals as goal
+use Rattle.replay.proofs.merges.merging.Goals as goal
 
 pub slice_bounds-sounder_merge-end : goal.slice_bounds-sounder_merge-end
 slice_bounds-sounder_merge-end c = part_length _ _ _ c.target_of-target.ensures c.if-n-gt4096.false
