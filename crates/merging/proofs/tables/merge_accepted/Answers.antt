@@ -32,7 +32,7 @@ pub returns-then-bytes-gt65536 : goal.returns-then-bytes-gt65536
 returns-then-bytes-gt65536 c =
     let p = holds c.args.first.now (λ i. omega (arith, c.type_inv.first i)) c.args.x c.requires.0 in
     let q = holds c.args.second.now (λ i. omega (arith, c.type_inv.second i)) c.args.y c.requires.1 in
-    let w = out-22 c.args.first.now c.args.second.now (λ i. omega (arith, c.type_inv.first i)) (λ i. omega (arith, c.type_inv.second i)) c.args.x c.args.y p q c.args.target.now (sym c.joined_agree-agree.ensures ∙ c.if-not-agree.false) c.if-bytes-gt65536.true in
+    let w = out-22 c.args.first.now c.args.second.now (λ i. omega (arith, c.type_inv.first i)) (λ i. omega (arith, c.type_inv.second i)) c.args.x c.args.y p q c.args.target.now (cc) c.if-bytes-gt65536.true in
     record { answered = w.0; left = w.1 }
 
 pub returns-then-target-bytes : goal.returns-then-target-bytes
