@@ -89,7 +89,8 @@ pub fn play(
         out,
     );
     let number = m.number;
-    if number != 0 {
+    let refused = number != 0;
+    if refused {
         return Played { number, voice };
     }
     let last = m.rng;

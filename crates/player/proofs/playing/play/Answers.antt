@@ -3,10 +3,14 @@ use Rattle.voice.specs.Input.{call}
 use Rattle.player.proofs.PlayLaws.{voice-refused, voice-played}
 use Rattle.player.proofs.playing.play.Goals as goal
 
-pub returns-then-number-ne0 : goal.returns-then-number-ne0
-returns-then-number-ne0 c =
-    voice-refused c.args.voice (call c.args.b c.args.freq.now c.args.g0.now c.args.g1.now c.args.g2.now c.args.g3.now) c.args.out.now c.play_parts-m.result _ _ _ c.play_parts-m.ensures c.if-number-ne0.true
+pub returns-then-refused : goal.returns-then-refused
+returns-then-refused c =
+    let a = c.args in
+    let k = call a.b a.freq.now a.g0.now a.g1.now a.g2.now a.g3.now in
+    voice-refused a.voice k a.out.now c.play_parts-m.result _ _ _ c.play_parts-m.ensures c.if-refused.true
 
 pub returns : goal.returns
 returns c =
-    voice-played c.args.voice (call c.args.b c.args.freq.now c.args.g0.now c.args.g1.now c.args.g2.now c.args.g3.now) c.args.out.now c.play_parts-m.result _ _ _ c.play_parts-m.ensures c.if-number-ne0.false
+    let a = c.args in
+    let k = call a.b a.freq.now a.g0.now a.g1.now a.g2.now a.g3.now in
+    voice-played a.voice k a.out.now c.play_parts-m.result _ _ _ c.play_parts-m.ensures c.if-refused.false
