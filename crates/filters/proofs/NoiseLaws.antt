@@ -1,10 +1,17 @@
 -- The noise: a quotient by 2^31 is a product with 2^-31, and the output is from -1 to 1.
-use Rattle.std.proofs.Common.{◌≡◌, ℕ, suc, ◌+◌, ◌-◌, ◌*◌, ◌^◌, ◌<◌, ◌≤◌, Bool, true, false, cond, not, T, ltb, pos, negsuc, nat_abs, sym, refl, ap, subst, mod-lt, mul_comm, arith, lit<, lit≤, ltb→lt, nltb→le}
+use Rattle.std.proofs.Common.{◌≡◌, ℕ, suc, ◌+◌, ◌-◌, ◌*◌, ◌^◌, ◌<◌, ◌≤◌, Bool, true, false, cond, not, T, ltb, pos, negsuc, nat_abs, sym, refl, ap, subst, mod-lt, mul_comm, arith, w32, to_z, lit<, lit≤, ltb→lt, nltb→le}
 use lib.Ieee.{Float, nan, inf, fin, binary32, up, down, unlike, round, of_int, mul, div}
 use Rattle.float.specs.inner.Range.{Mag}
 use Rattle.float.proofs.Mag.{int-mag, mul-mag}
 use Rattle.filters.specs.Rng.{stepped, signed_of, bipolar_of, next_bipolar}
 use Rattle.filters.specs.declared.rng.Rng.{Rng}
+
+-- the bits of a state, read as the library's signed number
+pub signed-is : (n : ℕ) → to_z w32 n ≡ signed_of n
+signed-is n = ap (λ (k : ℕ). cond (ltb n 2147483648) (pos n) (negsuc k)) (less n)
+  where
+    less : (n : ℕ) → 2 ^ 32 - suc n ≡ 4294967295 - n
+    less n = omega arith
 
 -- LAW: x / 2^31 is x * 2^-31, for every float
 pub quotient-is-product : (x : Float) → div binary32 x (fin false 1 (pos 31)) ≡ mul binary32 x (fin false 1 (negsuc 30))

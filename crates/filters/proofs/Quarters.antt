@@ -1,12 +1,8 @@
 -- The wave of a lent list by its four quarters, and its size.
-use Rattle.std.proofs.Common.{◌≡◌, ℕ, ◌-◌, ◌<◌, ◌≤◌, min, Bool, true, false, cond, leb, List, get_or, ℤ, pos, ◌-ℤ◌, neg_ℤ, nat_abs, sym, ap, ◌∙◌, subst, le_trans, le_of_eq, arith, w32, SFits, to_z, of_z, le-leb}
+use Rattle.std.proofs.Common.{◌≡◌, ℕ, ◌-◌, ◌<◌, ◌≤◌, min, Bool, true, false, cond, leb, List, get_or, ℤ, pos, nat_abs, ap, ◌∙◌, le_trans, le_of_eq, arith, le-leb}
 use borrow.Author.Tests.{lt-leb}
-use mir.ValLaws.{to_z_pos, to_z-of_z}
-use Rattle.float.proofs.Ints.{abs_neg, minus_is, abs-sfits}
+use Rattle.float.proofs.Ints.{abs_neg}
 use Rattle.filters.specs.Wave.{quarter_in, signed_in, wave_in}
-
-wide : (n : ℕ) → n ≤ 8388608 → n < 2147483648
-wide n h = omega arith
 
 pub wider : (n : ℕ) → n ≤ 8388608 → n ≤ 16777216
 wider n h = omega arith
@@ -17,29 +13,6 @@ quarter-small xs k = held (get_or xs k 0)
   where
     held : (n : ℕ) → min n 8388608 ≤ 8388608
     held n = omega arith
-
--- q is T(k) as the list has it
-module _ (xs : List ℕ) (q k : ℕ) (e : q ≡ quarter_in xs k) where
-  bound : q ≤ 8388608
-  bound = le_trans (le_of_eq e) (quarter-small xs k)
-
-  pub cast_fits : SFits w32 (pos q)
-  cast_fits = record { sfits = wide q bound }
-
-  pub read : to_z w32 q ≡ pos (quarter_in xs k)
-  read = to_z_pos w32 q (wide q bound) ∙ ap pos e
-
-  minus : pos 0 -ℤ to_z w32 q ≡ neg_ℤ (pos (quarter_in xs k))
-  minus = ap (λ (z : ℤ). pos 0 -ℤ z) read ∙ minus_is (pos (quarter_in xs k))
-
-  neg-fits : SFits w32 (neg_ℤ (pos (quarter_in xs k)))
-  neg-fits = abs-sfits (neg_ℤ (pos (quarter_in xs k))) (le_trans (le_of_eq (abs_neg (pos (quarter_in xs k)))) (wider (quarter_in xs k) (quarter-small xs k)))
-
-  pub minus-fits : SFits w32 (pos 0 -ℤ to_z w32 q)
-  minus-fits = subst (λ (z : ℤ). SFits w32 z) (sym minus) neg-fits
-
-  pub minus-read : to_z w32 (of_z w32 (pos 0 -ℤ to_z w32 q)) ≡ neg_ℤ (pos (quarter_in xs k))
-  minus-read = ap (λ (z : ℤ). to_z w32 (of_z w32 z)) minus ∙ to_z-of_z w32 (neg_ℤ (pos (quarter_in xs k))) neg-fits
 
 module _ (xs : List ℕ) where
   -- ---- the quarters

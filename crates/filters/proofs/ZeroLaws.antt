@@ -1,7 +1,8 @@
 -- Zeros added to a float. +0 changes nothing but the sign of -0, and of two floats that are not 0 the sum is never -0.
 use Rattle.std.proofs.Common.{◌≡◌, ℕ, zero, suc, ◌+◌, ◌-◌, ◌*◌, ◌<◌, ◌≤◌, Bool, true, false, cond, not, T, ltb, ℤ, pos, sym, refl, ap, ◌∙◌, subst, le_trans, le_of_eq, lt_of_lt_of_le, le_of_lt, lt_irrefl, mul-le-mul_right, zero-lt-suc, mul_assoc, mul_comm, add_comm, mul-pos, one-mul, zero-add, zero-mul, mul-one, le-add_left, arith, lit<, ltb→lt, lt→ltb, nltb→le}
 use native.Mathlib.Nat.{sub-zero}
-use lib.Ieee.{Float, nan, inf, fin, Format, binary32, up, down, round, sum, add, sub, div, neg, le, lt, eq, fits}
+use Rattle.std.specs.Float.{is_sign_negative}
+use lib.Ieee.{Float, nan, inf, fin, Format, binary32, up, down, round, sum, add, sub, neg, le, eq, fits}
 use lib.Ieee.Fits.{up_pos, down_pos, add-fits, neg-fits}
 use lib.Ieee.Bits.{is_true}
 use lib.Ieee.Order.{round_mono}
@@ -281,9 +282,9 @@ plus-zero-is (fin true m e) h k = absurd k
 plus-zero-is (fin false zero e) h k = zero_is false e h
 plus-zero-is (fin false (suc m) e) h k = absurd k
 
--- x equals 0: its sign is that of 1 / x
-pub zero-sign : (x : Float) → eq x (signed_zero false) ≡ true → lt (signed_zero false) (div binary32 (fin false 1 (pos 0)) x) ≡ is_plus_zero x
-unfolding eq lt div
+-- of what equals 0, the sign tells
+pub zero-sign : (x : Float) → eq x (signed_zero false) ≡ true → not (is_sign_negative x) ≡ is_plus_zero x
+unfolding eq is_sign_negative
 zero-sign nan h = true-is-false (sym h)
 zero-sign (inf s) h = true-is-false (sym h)
 zero-sign (fin true zero e) h = refl

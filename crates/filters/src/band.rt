@@ -5,9 +5,9 @@ ghost use Rattle.filters.specs.Biquad.{noise_band};
 ghost use Rattle.filters.specs.Band.{zero_coeffs, band_compensation, band_from};
 ghost use Rattle.filters.specs.declared.band.Band.{Band};
 
-use crate::biquad::{BiquadCoeffs, band_center, noise_band};
+use crate::biquad::{BiquadCoeffs, NOISE_BAND_Q, band_center, noise_band};
 use crate::compensation::{biquad_noise_power_gain, noise_power_compensation};
-use wave_table::table;
+use crate::rate::rate_ok;
 
 #[repr(C)]
 #[derive(Clone, Copy)]
@@ -20,7 +20,8 @@ fn compensation_of(coeffs: BiquadCoeffs, raw: f32, sample_rate: f32) -> f32
     requires { coeffs ≡ noise_band raw sample_rate }
     ensures { result ≡ band_compensation raw sample_rate }
 {
-    let gain = biquad_noise_power_gain(band_center(raw, sample_rate), 1.0, sample_rate, coeffs);
+    let center = band_center(raw, sample_rate);
+    let gain = biquad_noise_power_gain(center, NOISE_BAND_Q, sample_rate, coeffs);
     noise_power_compensation(gain.power)
 }
 
@@ -28,8 +29,7 @@ fn band_of(raw: f32, sample_rate: f32) -> Band
     requires { Rate sample_rate }
     ensures { result ≡ record { coeffs = noise_band raw sample_rate; compensation = band_compensation raw sample_rate } }
 {
-    let wave = table();
-    let coeffs = noise_band(&wave, raw, sample_rate);
+    let coeffs = noise_band(raw, sample_rate);
     let compensation = compensation_of(coeffs, raw, sample_rate);
     Band {
         coeffs,
@@ -54,14 +54,11 @@ pub fn zero_coeffs() -> BiquadCoeffs
 pub fn init_band(raw: f32, sample_rate: f32) -> Band
     ensures { result ≡ band_from raw sample_rate }
 {
-    let coeffs = zero_coeffs();
-    if 8000.0 <= sample_rate {
-        if sample_rate <= 192000.0 {
-            return band_of(raw, sample_rate);
-        }
+    if rate_ok(sample_rate) {
+        return band_of(raw, sample_rate);
     }
     Band {
-        coeffs,
+        coeffs: zero_coeffs(),
         compensation: 0.0,
     }
 }

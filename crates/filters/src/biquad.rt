@@ -6,9 +6,10 @@ ghost use Rattle.filters.specs.Biquad.{turn, turn_quarter, params_of, normalized
 ghost use Rattle.filters.specs.inner.Ranges.{Rate};
 
 use crate::wave::sine;
+use wave_table::table;
 
 // Resonance of a noise band: low, so that the band is wide.
-const NOISE_BAND_Q: f32 = 1.0;
+pub(crate) const NOISE_BAND_Q: f32 = 1.0;
 
 #[repr(C)]
 #[derive(Clone, Copy)]
@@ -40,6 +41,7 @@ impl BiquadState {
         BiquadState { z1: 0.0, z2: 0.0 }
     }
 
+    // The filter after it beside the output: definitions speak of both as one value, which a `&mut self` would part.
     pub fn tick(mut self, x: f32, c: BiquadCoeffs) -> Tick
         ensures { result ≡ tick_of self x c }
     {
@@ -69,16 +71,17 @@ fn biquad_params(t: &[u32; 257], freq: f32, q: f32, sample_rate: f32) -> BiquadP
     BiquadParams { cos_w0, alpha }
 }
 
-fn normalize(b0: f32, b1: f32, b2: f32, a0: f32, a1: f32, a2: f32) -> BiquadCoeffs
-    ensures { result ≡ normalized b0 b1 b2 a0 a1 a2 }
+// The coefficients over a0.
+fn normalize(c: BiquadCoeffs, a0: f32) -> BiquadCoeffs
+    ensures { result ≡ normalized c.b0 c.b1 c.b2 a0 c.a1 c.a2 }
 {
     let inv_a0 = 1.0 / a0;
     BiquadCoeffs {
-        b0: b0 * inv_a0,
-        b1: b1 * inv_a0,
-        b2: b2 * inv_a0,
-        a1: a1 * inv_a0,
-        a2: a2 * inv_a0,
+        b0: c.b0 * inv_a0,
+        b1: c.b1 * inv_a0,
+        b2: c.b2 * inv_a0,
+        a1: c.a1 * inv_a0,
+        a2: c.a2 * inv_a0,
     }
 }
 
@@ -90,11 +93,14 @@ pub fn biquad_bpf_coeffs(t: &[u32; 257], freq: f32, q: f32, sample_rate: f32) ->
     ensures { result ≡ band_pass freq q sample_rate }
 {
     let p = biquad_params(t, freq, q, sample_rate);
-    let alpha = p.alpha;
-    let b0 = alpha;
-    let b1 = 0.0;
-    let b2 = -alpha;
-    normalize(b0, b1, b2, 1.0 + alpha, -2.0 * p.cos_w0, 1.0 - alpha)
+    let band = BiquadCoeffs {
+        b0: p.alpha,
+        b1: 0.0,
+        b2: -p.alpha,
+        a1: -2.0 * p.cos_w0,
+        a2: 1.0 - p.alpha,
+    };
+    normalize(band, 1.0 + p.alpha)
 }
 
 pub fn band_center(raw: f32, sample_rate: f32) -> f32
@@ -105,10 +111,15 @@ pub fn band_center(raw: f32, sample_rate: f32) -> f32
 }
 
 // The band whose centre is raw, held to its limits.
-pub fn noise_band(t: &[u32; 257], raw: f32, sample_rate: f32) -> BiquadCoeffs
-    requires is_table { Table t.now }
-    requires is_rate { Rate sample_rate }
+pub fn noise_band(raw: f32, sample_rate: f32) -> BiquadCoeffs
+    requires { Rate sample_rate }
     ensures { result ≡ noise_band raw sample_rate }
 {
-    biquad_bpf_coeffs(t, band_center(raw, sample_rate), NOISE_BAND_Q, sample_rate)
+    let wave = table();
+    biquad_bpf_coeffs(
+        &wave,
+        band_center(raw, sample_rate),
+        NOISE_BAND_Q,
+        sample_rate,
+    )
 }

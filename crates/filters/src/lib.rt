@@ -5,6 +5,7 @@
 mod band;
 mod biquad;
 mod compensation;
+mod rate;
 mod rng;
 mod wave;
 mod whole;
@@ -12,5 +13,6 @@ mod whole;
 pub use band::{Band, init_band, zero_coeffs};
 pub use biquad::{BiquadCoeffs, BiquadState, Tick};
 pub use compensation::{NoisePower, biquad_noise_power_gain};
+pub use rate::rate_ok;
 pub use rng::{Bipolar, Rng};
 pub use wave::sine;

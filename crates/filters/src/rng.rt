@@ -1,6 +1,6 @@
 // Noise numbers. The state goes in by value and comes back beside the output.
 ghost use Rattle.std.specs.Prelude.{◌≡◌};
-ghost use Rattle.filters.specs.Rng.{stepped, signed_of, bipolar_of, new_rng, default_seed, next_bipolar};
+ghost use Rattle.filters.specs.Rng.{stepped, bipolar_of, new_rng, default_seed, next_bipolar};
 
 const PARTIALS_NOISE_DEFAULT_SEED: u32 = 0x9A27_1E55;
 
@@ -21,17 +21,11 @@ impl Rng {
         ensures { result ≡ new_rng seed }
     {
         Rng {
-            state: std::num::wrapping_add_u32(seed, 1),
+            state: seed.wrapping_add(1),
         }
     }
 
-    // The generator of a voice that was not given a seed.
-    pub fn default() -> Self
-        ensures { result ≡ new_rng default_seed }
-    {
-        Rng::new(PARTIALS_NOISE_DEFAULT_SEED)
-    }
-
+    // The state after it beside the output: definitions speak of both as one value, which a `&mut self` would part.
     pub fn next_bipolar(mut self) -> Bipolar
         ensures { result ≡ next_bipolar self }
     {
@@ -41,27 +35,24 @@ impl Rng {
     }
 }
 
+// The generator of a voice that was not given a seed.
+impl Default for Rng {
+    ghost is_default = { λ g. g ≡ new_rng default_seed };
+
+    fn default() -> Rng {
+        Rng::new(PARTIALS_NOISE_DEFAULT_SEED)
+    }
+}
+
 fn step(s: u32) -> u32
     ensures { result ≡ stepped s }
 {
-    let t: u64 = (s as u64) * 1664525 + 1013904223;
-    (t % 0x1_0000_0000) as u32
-}
-
-// The bits as a signed number.
-fn signed(n: u32) -> i32
-    ensures { result ≡ signed_of n }
-{
-    if n < 0x8000_0000 {
-        n as i32
-    } else {
-        -1 - ((0xffff_ffff - n) as i32)
-    }
+    s.wrapping_mul(1664525).wrapping_add(1013904223)
 }
 
 // A product with 2^-31 is the quotient by 2^31, and quicker.
 fn scaled(s: u32) -> f32
     ensures { result ≡ bipolar_of s }
 {
-    std::num::nearest_i32_to_f32(signed(s)) * 4.656612873077392578125e-10
+    std::num::nearest_i32_to_f32(s.cast_signed()) * 4.656612873077392578125e-10
 }

@@ -10,8 +10,7 @@ fn entry(t: &[u32; 257], k: usize) -> u32
     requires { k ≤ 256 }
     ensures { result ≡ quarter_in t.now k }
 {
-    let q = t[k];
-    if q <= 8388608 { q } else { 8388608 }
+    t[k].min(8388608)
 }
 
 // T(k), or its negative.
@@ -19,8 +18,8 @@ fn quarter(t: &[u32; 257], k: usize, minus: bool) -> i32
     requires { k ≤ 256 }
     ensures { result ≡ signed_in t.now minus k }
 {
-    let q = entry(t, k);
-    if minus { 0 - (q as i32) } else { q as i32 }
+    let q = entry(t, k) as i32;
+    if minus { -q } else { q }
 }
 
 // W(k).
@@ -28,16 +27,12 @@ fn wave(t: &[u32; 257], k: usize) -> i32
     requires { k ≤ 1024 }
     ensures { result ≡ wave_in t.now k }
 {
-    if k <= 256 {
-        return quarter(t, k, false);
+    match k {
+        0..=256 => quarter(t, k, false),
+        257..=512 => quarter(t, 512 - k, false),
+        513..=768 => quarter(t, k - 512, true),
+        _ => quarter(t, 1024 - k, true),
     }
-    if k <= 512 {
-        return quarter(t, 512 - k, false);
-    }
-    if k <= 768 {
-        return quarter(t, k - 512, true);
-    }
-    quarter(t, 1024 - k, true)
 }
 
 // S(p) of a phase.
@@ -58,10 +53,8 @@ fn on_line(t: &[u32; 257], p: f32) -> f32
 pub fn sine(t: &[u32; 257], p: f32) -> f32
     ensures { result ≡ sine_in t.now p }
 {
-    if 0.0 < p {
-        if p < 1.0 {
-            return on_line(t, p);
-        }
+    if 0.0 < p && p < 1.0 {
+        return on_line(t, p);
     }
     0.0
 }

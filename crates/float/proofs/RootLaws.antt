@@ -1,11 +1,11 @@
 -- The whole part of a root, and the numbers whose root the square root of a float takes. Assumes nothing.
 use mathlib.Core.Path.{◌≡◌, sym, ap, ◌∙◌, subst}
 use Prim.Native.Nat.{ℕ, zero, suc, ◌+◌, ◌*◌, ◌/◌, ◌%◌, ◌^◌, ◌≤◌, ◌<◌}
-use native.Mathlib.Nat.{le_trans, le_antisymm, mul-le-mul, lt_of_not-le, lt_of_le_of_lt, not-le_of_lt, le_of_suc-le-suc, two-pow-succ, add_assoc, mul-add, add-mul, mul-mul-mul_comm}
+use native.Mathlib.Nat.{le_trans, le_antisymm, mul-le-mul, lt_of_not-le, not-le_of_lt, le_of_suc-le-suc, two-pow-succ, add_assoc, mul-add, add-mul, mul-mul-mul_comm}
 use native.Mathlib.Omega.{arith}
 use mathlib.Core.Logic.{◌⊎◌, inl, inr}
 use mathlib.Core.Bool.{Bool, true, false, not, cond}
-use lib.Dec.{T, leb, eqb, leb→le, nleb→lt, lit<}
+use lib.Dec.{T, leb, eqb, leb→le, nleb→lt}
 use borrow.Author.Tests.{eq-eqb, ne_eqb}
 use Rattle.float.specs.Root.{grown, root}
 use Rattle.float.specs.Sqrt.{scaled, significand}
@@ -99,10 +99,6 @@ short n k l u =
 
     twice : (k : ℕ) → 2 * k + 1 + 1 ≡ 2 * (k + 1)
     twice k = omega arith
-
--- the square of what `nearest` may try
-pub square-fits : (h : ℕ) → h ≤ 16777216 → h * h < 2 ^ 64
-square-fits h u = lt_of_le_of_lt (mul-le-mul u u) (lit< tt)
 
 -- LAW: h is the whole number nearest to the root of n
 pub nearest-is : (n h : ℕ) → n < 2 ^ 48 → h * h < n + h → n ≤ h * h + h → h ≡ (root (4 * n) + 1) / 2

@@ -36,11 +36,8 @@ pub(crate) fn fault(x: f32, y: f32) -> u32
     ensures { (result ≤ 2) × (result ≡ 0 → Kept x y → IsRoot x y) }
 {
     let s = square_fault(bits_above_zero(x), bits_above_zero(y));
-    if x >= 1.1754943508222875e-38 {
-        if x <= 3.4028234663852886e38 {
-            return s;
-        }
-        return 1;
+    if x >= f32::MIN_POSITIVE {
+        return if x <= f32::MAX { s } else { 1 };
     }
     if x == 0.0 { 0 } else { 1 }
 }

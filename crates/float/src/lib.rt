@@ -4,16 +4,14 @@
 mod bits;
 mod fault;
 mod interpolate;
-mod maximum;
-mod minimum;
 mod near;
+mod order;
 mod root;
 mod roots;
 mod rounding;
 
 pub use bits::{from_bits, is_finite};
 pub use interpolate::lerp;
-pub use maximum::max;
-pub use minimum::min;
+pub use order::{max, min};
 pub use root::sqrt;
 pub use roots::sqrt_each;

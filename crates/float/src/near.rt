@@ -2,19 +2,6 @@
 ghost use Rattle.std.specs.Prelude.{not, ◌<◌, ◌≤◌, T};
 ghost use Rattle.std.specs.Float.Ieee.{is_nan};
 
-// x where it is above 0, else 0: no NaN, so that its pattern and its `f64` can be had.
-fn above_zero(x: f32) -> f32
-    ensures { T (not (is_nan result)) }
-{
-    if x > 0.0 { x } else { 0.0 }
-}
-
-fn above_zero_f64(x: f64) -> f64
-    ensures { T (not (is_nan result)) }
-{
-    if x > 0.0 { x } else { 0.0 }
-}
-
 // About 1 / the root of x; b is the pattern of x.
 // It is taken from half the pattern, within 1 / 30, and brought nearer by two of Newton's steps.
 fn inverse(x: f32, b: u32) -> f32
@@ -31,10 +18,11 @@ pub(crate) fn near(x: f32, b: u32) -> u64
     requires finite_bits { b < 2139095040 }
     ensures { result ≤ 16777216 }
 {
-    let y = above_zero(inverse(x, b)) as f64;
+    // no less than 0: no NaN, so that an `f64` and its pattern can be had
+    let y = inverse(x, b).max(0.0) as f64;
     let z = x as f64;
     let w = (z * y) * (1.5 - (0.5 * z) * (y * y));
-    let p = f64::to_bits(above_zero_f64(w));
+    let p = w.max(0.0).to_bits();
     // rounded to 24 digits without the first, which is 1: a guess that rounds up to a power of two counts as that power
     (p / 0x1000_0000 % 0x100_0000 + 1) / 2 % 0x80_0000 + 0x80_0000
 }

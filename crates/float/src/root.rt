@@ -7,6 +7,7 @@ ghost use Rattle.float.specs.Sqrt.{scaled, normal_root, positive_root};
 ghost use Rattle.float.specs.inner.Normal.{normal};
 ghost use Rattle.float.specs.Sqrt.{sqrt as Sqrt·sqrt};
 
+use crate::bits::is_finite;
 use crate::near::near;
 use crate::rounding::nearest;
 
@@ -43,7 +44,7 @@ fn positive_root(x: f32) -> f32
     requires { T (positive x) }
     ensures { result ≡ positive_root x }
 {
-    if x < 1.1754943508222875e-38 {
+    if x < f32::MIN_POSITIVE {
         return normal_root(x * 16777216.0) * 0.000244140625;
     }
     normal_root(x)
@@ -55,22 +56,17 @@ fn rare_root(x: f32) -> f32
     ensures { result ≡ Sqrt·sqrt x }
 {
     if x > 0.0 {
-        if x - x == 0.0 {
-            return positive_root(x);
-        }
-        return x;
+        return if is_finite(x) { positive_root(x) } else { x };
     }
-    if x == 0.0 { x } else { 0.0 / 0.0 }
+    if x == 0.0 { x } else { f32::NAN }
 }
 
 // The square root.
 pub fn sqrt(x: f32) -> f32
     ensures { result ≡ Sqrt·sqrt x }
 {
-    if x >= 1.1754943508222875e-38 {
-        if x <= 3.4028234663852886e38 {
-            return normal_root(x);
-        }
+    if x >= f32::MIN_POSITIVE && x <= f32::MAX {
+        return normal_root(x);
     }
     rare_root(x)
 }

@@ -2,7 +2,8 @@
 ghost use Rattle.std.specs.Prelude.{◌≡◌, ◌+◌, ◌*◌, ◌/◌, ◌<◌, ◌≤◌, ◌^◌};
 ghost use Rattle.float.specs.Root.{root};
 
-// The number nearest to the root of n: h, brought down and then up.
+// The number nearest to the root of n: h, brought down and then up. Both loops search from the guess, and where they end is the answer: a
+// range would have no end to name.
 fn moved(n: u64, near: u64) -> u64
     requires { (n < 2 ^ 48) × (0 < n) × (near ≤ 16777216) }
     ensures { result ≡ (root (4 * n) + 1) / 2 }
@@ -24,10 +25,8 @@ pub(crate) fn nearest(n: u64, near: u64) -> u64
     ensures { result ≡ (root (4 * n) + 1) / 2 }
 {
     let s = near * near;
-    if s < n + near {
-        if n <= s + near {
-            return near;
-        }
+    if s < n + near && n <= s + near {
+        return near;
     }
     moved(n, near)
 }

@@ -1,29 +1,21 @@
-use Rattle.std.proofs.Common.{T, sym, refl, subst}
+-- `init_band` meets its contract.
+use Rattle.std.proofs.Common.{T, subst}
 use lib.Ieee.{of_bits, round}
+use lib.Ieee.Fits.{and_l, and_r}
 use Rattle.filters.specs.Band.{band_from}
 use Rattle.filters.proofs.Tests.{rate-is}
 use Rattle.filters.proofs.band.init_band.Goals as goal
 
-pub zero_coeffs-coeffs-requires : goal.zero_coeffs-coeffs-requires
-zero_coeffs-coeffs-requires c =
-    tt
-
 pub band_of-requires : goal.band_of-requires
 unfolding of_bits round
 band_of-requires c =
-    rate-is _ (subst T (sym c.if-sample_rate.true) tt) (subst T (sym c.if-sample_rate-2.true) tt)
+    let t = subst T c.if-rate_ok.ensures tt in
+    rate-is _ (and_l _ _ t) (and_r _ _ t)
 
-pub returns-then-sample_rate-2 : goal.returns-then-sample_rate-2
-unfolding band_from of_bits round
-returns-then-sample_rate-2 c =
-    rw (c.if-sample_rate.true, c.if-sample_rate-2.true) c.band_of.ensures
+pub returns-then-rate_ok : goal.returns-then-rate_ok
+unfolding band_from
+returns-then-rate_ok c = rw (← c.if-rate_ok.ensures) c.band_of.ensures
 
-pub returns-else-sample_rate-2 : goal.returns-else-sample_rate-2
+pub returns : goal.returns
 unfolding band_from of_bits round
-returns-else-sample_rate-2 c =
-    rw (c.if-sample_rate.true, c.if-sample_rate-2.false, c.zero_coeffs-coeffs.ensures) refl
-
-pub returns-else-sample_rate : goal.returns-else-sample_rate
-unfolding band_from of_bits round
-returns-else-sample_rate c =
-    rw (c.if-sample_rate.false, c.zero_coeffs-coeffs.ensures) refl
+returns c = rw (← c.if-rate_ok.ensures, c.zero_coeffs.ensures)

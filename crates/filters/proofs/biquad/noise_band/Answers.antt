@@ -10,9 +10,9 @@ pub biquad_bpf_coeffs-requires : goal.biquad_bpf_coeffs-requires
 biquad_bpf_coeffs-requires c =
     let rate = c.args.sample_rate in
     let e = sym c.band_center.ensures in record {
-      is_table = c.requires.is_table;
-      sine_phase = subst (λ (z : Float). Phase (turn z rate)) e (turn-phase rate (subst T (sym c.well_formed.1.1.0.1) tt) c.requires.is_rate c.args.raw);
-      cosine_phase = subst (λ (z : Float). Phase (turn_quarter z rate)) e (turn-quarter-phase rate (subst T (sym c.well_formed.1.1.0.1) tt) c.requires.is_rate c.args.raw);
+      is_table = c.table-wave.ensures;
+      sine_phase = subst (λ (z : Float). Phase (turn z rate)) e (turn-phase rate (subst T (sym c.well_formed.1.0.1) tt) c.requires c.args.raw);
+      cosine_phase = subst (λ (z : Float). Phase (turn_quarter z rate)) e (turn-quarter-phase rate (subst T (sym c.well_formed.1.0.1) tt) c.requires c.args.raw);
     }
 
 pub returns : goal.returns

@@ -4,4 +4,4 @@ use Rattle.filters.proofs.compensation.ring_count.Goals as goal
 
 pub returns : goal.returns
 unfolding of_bits round
-returns c = rw (c.hold.ensures, c.max-tau.ensures, c.max-f.ensures)
+returns c = rw (c.clamp.ensures, c.saturating_f32_to_u64.ensures, c.max-tau.ensures, c.max-f.ensures)

@@ -1,7 +1,6 @@
 -- `on_line` meets its contract.
-use Rattle.std.proofs.Common.{◌≡◌, ℕ, ◌<◌, T, pos, sym, subst, le_of_eq, lt_of_le_of_lt, arith}
+use Rattle.std.proofs.Common.{◌≡◌, ℕ, ◌<◌, T, sym, subst, le_of_eq, lt_of_le_of_lt, arith}
 use lib.Ieee.{Float, binary32, fits, of_bits}
-use Rattle.float.proofs.Ints.{abs-in-float}
 use Rattle.filters.specs.inner.Ranges.{Phase}
 use Rattle.filters.specs.Wave.{cell_of}
 use Rattle.filters.proofs.SineLaws.{place-within, cell-lt}
@@ -11,9 +10,6 @@ use Rattle.filters.proofs.wave.on_line.Goals as goal
 pub whole_part-k-requires : goal.whole_part-k-requires
 unfolding of_bits
 whole_part-k-requires c = (place-within c.args.p (subst T (sym c.well_formed.1.0.1) tt) c.requires)
-
-pub int_to_float-r : goal.int_to_float-r
-int_to_float-r c = abs-in-float (pos c.whole_part-k.result) c.whole_part-k.ensures.1
 
 -- k is below 1024
 cell : (k : ℕ) (p : Float) → T (fits binary32 p) → Phase p → k ≡ cell_of p → k < 1024

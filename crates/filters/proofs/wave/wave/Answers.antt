@@ -9,14 +9,17 @@ use Rattle.filters.proofs.wave.wave.Goals as goal
 back : (z : ℤ) → mag z < 2147483648 → to_z w32 (of_z w32 z) ≡ z
 back z h = to_z-of_z w32 z (record { sfits = h })
 
-pub returns-then-k-le256 : goal.returns-then-k-le256
-returns-then-k-le256 c = back c.quarter.result c.quarter.type_inv ∙ c.quarter.ensures ∙ sym (first c.args.t.now c.args.k (omega arith))
+pub returns-in-0-to-256 : goal.returns-in-0-to-256
+returns-in-0-to-256 c = back _ c.quarter.type_inv ∙ c.quarter.ensures ∙ sym (first _ _ (omega arith))
 
-pub returns-then-k-le512 : goal.returns-then-k-le512
-returns-then-k-le512 c = back c.quarter-then-k-le512.result c.quarter-then-k-le512.type_inv ∙ c.quarter-then-k-le512.ensures ∙ sym (second c.args.t.now c.args.k (omega arith) (omega arith))
+pub returns-in-257-to-512 : goal.returns-in-257-to-512
+returns-in-257-to-512 c =
+    back _ c.quarter-in-257-to-512.type_inv ∙ c.quarter-in-257-to-512.ensures ∙ sym (second _ _ (omega arith) (omega arith))
 
-pub returns-then-k-le768 : goal.returns-then-k-le768
-returns-then-k-le768 c = back c.quarter-then-k-le768.result c.quarter-then-k-le768.type_inv ∙ c.quarter-then-k-le768.ensures ∙ sym (third c.args.t.now c.args.k (omega arith) (omega arith) (omega arith))
+pub returns-in-513-to-768 : goal.returns-in-513-to-768
+returns-in-513-to-768 c =
+    back _ c.quarter-in-513-to-768.type_inv ∙ c.quarter-in-513-to-768.ensures ∙ sym (third _ _ (omega arith) (omega arith) (omega arith))
 
-pub returns : goal.returns
-returns c = back c.quarter-2.result c.quarter-2.type_inv ∙ c.quarter-2.ensures ∙ sym (fourth c.args.t.now c.args.k (omega arith) (omega arith) (omega arith))
+pub returns-in_default : goal.returns-in_default
+returns-in_default c =
+    back _ c.quarter-in_default.type_inv ∙ c.quarter-in_default.ensures ∙ sym (fourth _ _ (omega arith) (omega arith) (omega arith))

@@ -1,10 +1,13 @@
--- `float::from_bits` meets its contract. Assumes nothing.
-use mathlib.Core.Path.{sym, ◌∙◌}
-use Rattle.float.proofs.Finite.{zero_by_zero, nan_pattern, no-nan-pattern}
+-- `bits::from_bits` meets its contract. Assumes nothing.
+use Rattle.std.proofs.Common.{sym, rules}
+use Rattle.std.proofs.lemmas.Float.{not_nan_f32_bits}
+use lib.Ieee.{of_bits}
+use Rattle.float.proofs.Finite.{nan_pattern}
 use Rattle.float.proofs.bits.from_bits.Goals as goal
 
 pub float_from_bits-result : goal.float_from_bits-result
-float_from_bits-result c = no-nan-pattern c.args.n c.if-n-gt2139095040.false
+float_from_bits-result c = not_nan_f32_bits _ (search rules)
 
 pub returns-then-n-gt2139095040 : goal.returns-then-n-gt2139095040
-returns-then-n-gt2139095040 c = zero_by_zero ∙ sym (nan_pattern c.args.n c.if-n-gt2139095040.true)
+unfolding of_bits
+returns-then-n-gt2139095040 c = sym (nan_pattern c.args.n c.if-n-gt2139095040.true)

@@ -1,8 +1,14 @@
--- `float::is_finite` meets its contract. Assumes nothing.
-use lib.Ieee.{of_bits}
-use Rattle.float.proofs.Finite.{finite-test}
+-- `bits::is_finite` meets its contract. Assumes nothing.
+use Rattle.std.proofs.Common.{◌≡◌, refl, ◌∙◌}
+use Rattle.std.specs.Float.{Float, nan, inf, fin, float_is_finite}
+use Rattle.std.specs.Float.Ieee.Scale.{finite}
 use Rattle.float.proofs.bits.is_finite.Goals as goal
 
+alike : (x : Float) → float_is_finite x ≡ finite x
+unfolding float_is_finite
+alike nan = refl
+alike (inf s) = refl
+alike (fin s m e) = refl
+
 pub returns : goal.returns
-unfolding of_bits
-returns c = finite-test c.args.x
+returns c = c.is_finite.ensures.value ∙ alike c.args.x

@@ -19,29 +19,8 @@ h-small b p = omega arith
 ranges : (b p n : ℕ) → 4 * n ≡ scaled b → Ranges (beyond b p * beyond b p) (beyond b p) n
 ranges b p n e = let u = h-small b p in record { square = square-small (beyond b p) u; side = u; number = (quartered n b e).0 }
 
--- each step fits
+-- how many, and what none says
 module _ (s h n : ℕ) (r : Ranges s h n) where
-  fits-s : s < 2 ^ 64
-  fits-s = omega arith
-
-  fits_low : 9223372036854775808 + s < 2 ^ 64
-  fits_low = omega arith
-
-  fits-over : n + h < 2 ^ 64
-  fits-over = omega arith
-
-  less-low : n + h ≤ 9223372036854775808 + s
-  less-low = omega arith
-
-  fits-high : 9223372036854775807 + n < 2 ^ 64
-  fits-high = omega arith
-
-  fits-side : s + h < 2 ^ 64
-  fits-side = omega arith
-
-  less-high : s + h ≤ 9223372036854775807 + n
-  less-high = omega arith
-
   few : (9223372036854775808 + s - (n + h)) / 9223372036854775808 + (9223372036854775807 + n - (s + h)) / 9223372036854775808 ≤ 2
   few = omega arith
 
@@ -50,36 +29,6 @@ module _ (s h n : ℕ) (r : Ranges s h n) where
 
   over : (9223372036854775808 + s - (n + h)) / 9223372036854775808 + (9223372036854775807 + n - (s + h)) / 9223372036854775808 ≡ 0 → n ≤ s + h
   over e = omega arith
-
-narrow : (r : ℕ) → r ≤ 2 → (r < 2 ^ 64) × (r < 2 ^ 32)
-narrow r h = (omega arith, omega arith)
-
-pub overflow_mul-s : goal.overflow_mul-s
-overflow_mul-s c = record { fits = fits-s _ _ _ (ranges c.args.b c.args.p c.quarter-n.result c.quarter-n.ensures) }
-
-pub overflow_add-low : goal.overflow_add-low
-overflow_add-low c = record { fits = fits_low _ _ _ (ranges c.args.b c.args.p c.quarter-n.result c.quarter-n.ensures) }
-
-pub overflow_add-low-2 : goal.overflow_add-low-2
-overflow_add-low-2 c = record { fits = fits-over _ _ _ (ranges c.args.b c.args.p c.quarter-n.result c.quarter-n.ensures) }
-
-pub overflow_sub-low : goal.overflow_sub-low
-overflow_sub-low c = less-low _ _ _ (ranges c.args.b c.args.p c.quarter-n.result c.quarter-n.ensures)
-
-pub overflow_add-high : goal.overflow_add-high
-overflow_add-high c = record { fits = fits-high _ _ _ (ranges c.args.b c.args.p c.quarter-n.result c.quarter-n.ensures) }
-
-pub overflow_add-high-2 : goal.overflow_add-high-2
-overflow_add-high-2 c = record { fits = fits-side _ _ _ (ranges c.args.b c.args.p c.quarter-n.result c.quarter-n.ensures) }
-
-pub overflow_sub-high : goal.overflow_sub-high
-overflow_sub-high c = less-high _ _ _ (ranges c.args.b c.args.p c.quarter-n.result c.quarter-n.ensures)
-
-pub overflow_add-result : goal.overflow_add-result
-overflow_add-result c = record { fits = (narrow _ (few _ _ _ (ranges c.args.b c.args.p c.quarter-n.result c.quarter-n.ensures))).0 }
-
-pub overflow_cast-result : goal.overflow_cast-result
-overflow_cast-result c = record { fits = (narrow _ (few _ _ _ (ranges c.args.b c.args.p c.quarter-n.result c.quarter-n.ensures))).1 }
 
 pub returns : goal.returns
 returns c =

@@ -3,13 +3,9 @@ use mathlib.Core.Path.{sym, ◌∙◌, subst}
 use lib.Dec.{T}
 use lib.Ieee.{binary32, fits, of_bits}
 use Rattle.float.proofs.Finite.{shown}
-use Rattle.float.proofs.Patterns.{normal-range, normal-plain, plain-no-nan}
+use Rattle.float.proofs.Patterns.{normal-range}
 use Rattle.float.proofs.Operands.{sqrt-normal}
 use Rattle.float.proofs.roots.guess.Goals as goal
-
-pub float_to_bits-x : goal.float_to_bits-x
-unfolding of_bits
-float_to_bits-x c = let x = c.args.x in plain-no-nan x (normal-plain x ((sqrt-normal c.args.x c.if-x.true c.if-x-2.true).0))
 
 pub near_f32-requires : goal.near_f32-requires
 unfolding of_bits

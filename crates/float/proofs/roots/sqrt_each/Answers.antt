@@ -1,22 +1,19 @@
 -- `roots::sqrt_each` meets its contract. Assumes nothing.
-use mathlib.Core.Path.{◌≡◌, ◌∙◌}
-use mathlib.Core.Logic.{◌⊎◌}
-use Prim.Native.Nat.{ℕ, ◌≤◌}
-use lib.ListN.{length}
-use mathlib.Core.List.{List}
-use native.Mathlib.Nat.{le_trans}
-use lib.Ieee.{Float}
+use Rattle.std.proofs.Common.{◌≡◌, ℕ, min, List, ◌++◌, length, take, drop, ap, ◌∙◌, arith}
+use Rattle.std.specs.Float.{Float}
+use Rattle.std.specs.List.{AllZip}
 use Rattle.float.specs.Roots.{rooted}
-use Rattle.float.specs.inner.Roots.{IsRoot, DoneUpTo}
-use Rattle.float.proofs.Column.{rooted-least, upto-rooted}
+use Rattle.float.specs.inner.Roots.{IsRoot}
+use Rattle.float.proofs.Column.{rooted-filled, rooted-least}
 use Rattle.float.proofs.roots.sqrt_each.Goals as goal
 
 -- the first k are all that the lists have of the first n
-all : (m k n : ℕ) (xs roots : List Float) → (m ≤ length roots) × (m ≤ length xs) × ((m ≡ length roots) ⊎ (m ≡ length xs)) → (k ≤ n) × (k ≤ m) × ((k ≡ n) ⊎ (k ≡ m)) → (after : List Float) → DoneUpTo IsRoot k xs roots after → after ≡ rooted n xs roots
-all m k n xs roots a b after u = upto-rooted k xs roots after (le_trans b.1 a.1) (le_trans b.1 a.0) u ∙ rooted-least n m k xs roots b.0 b.2 a.2
+all : (m k n : ℕ) (xs rs ys : List Float) → m ≡ min n (length rs) → k ≡ min m (length xs) → AllZip IsRoot (take k xs) ys → ys ++ drop k rs ≡ rooted n xs rs
+all m k n xs rs ys a b u =
+    rooted-filled k xs rs ys (omega arith) (omega arith) u ∙ rooted-least k n xs rs (b ∙ ap (λ z. min z (length xs)) a)
 
 pub returns-then-k-le16777216 : goal.returns-then-k-le16777216
-returns-then-k-le16777216 c = all c.least.result c.least-k.result c.args.n c.args.xs.now c.args.roots.now c.least.ensures c.least-k.ensures c.each_by_guess.new.roots c.each_by_guess.ensures
+returns-then-k-le16777216 c = all _ _ _ _ _ _ c.min.ensures c.min-k.ensures c.each_by_guess.ensures
 
-pub returns : goal.returns
-returns c = all c.least.result c.least-k.result c.args.n c.args.xs.now c.args.roots.now c.least.ensures c.least-k.ensures c.each.new.roots c.each.ensures
+pub returns-else-k-le16777216 : goal.returns-else-k-le16777216
+returns-else-k-le16777216 c = all _ _ _ _ _ _ c.min.ensures c.min-k.ensures c.fill_each.ensures
