@@ -7,14 +7,14 @@ use mathlib.Core.Option.{Option, some, none}
 use native.Mathlib.Omega.{arith}
 use lib.Dec.{eqb}
 use Rattle.wire.specs.Parse.{Refusal, Parsed, ok, refused}
-use Rattle.table.specs.declared.desk.DeskRead.{DeskRead}
+use Rattle.std.specs.Prelude.{Result, Ok, Err, Some, None}
+use Rattle.std.specs.Prelude.{Option as CodeOption}
+use Rattle.table.specs.declared.desk.Desk.{Desk}
 use Rattle.table.specs.declared.entry.EntryView.{EntryView}
-use Rattle.table.specs.declared.entry.EntryRead.{EntryRead}
 use Rattle.table.specs.declared.error.CoeffTableCodecError.{CoeffTableCodecError}
-use Rattle.table.specs.declared.lookup.EntryFound.{EntryFound}
-use Rattle.table.specs.declared.metadata.Found.{Found}
-use Rattle.table.specs.declared.read.Reading.{Reading}
-use Rattle.table.specs.declared.rewrite.Rewriting.{Rewriting}
+use Rattle.table.specs.declared.read.Counts.{Counts}
+use Rattle.table.specs.declared.rewrite.Written.{Written}
+use Rattle.table.specs.declared.rewrite.RewriteError.{RewriteError}
 use Rattle.table.specs.Image.{entry}
 use Rattle.table.specs.View.{entry_at, view_of, PlacedRead}
 use Rattle.table.specs.Answer.{refusal_of, reading_parsed, found_bits, entry_parsed}
@@ -49,22 +49,22 @@ error-back (CoeffTableCodecError.InconsistentNoiseBandSpan f i) = refl
 pub refusal-apart : (a b : CoeffTableCodecError) → refusal_of a ≡ refusal_of b → a ≡ b
 refusal-apart a b e = apart refusal_of error_of error-back a b e
 
-abbrev reading_of : Parsed ℕ → Reading
-reading_of (ok n end) = Reading.Accepted n end
-reading_of (refused r) = Reading.Refused (error_of r)
+abbrev reading_of : Parsed ℕ → Result Counts CoeffTableCodecError
+reading_of (ok n end) = Ok (record { entries = n; end = end })
+reading_of (refused r) = Err (error_of r)
 
-reading-back : (r : Reading) → reading_of (reading_parsed r) ≡ r
-reading-back (Reading.Accepted n end) = refl
-reading-back (Reading.Refused e) = ap Reading.Refused (error-back e)
+reading-back : (r : Result Counts CoeffTableCodecError) → reading_of (reading_parsed r) ≡ r
+reading-back (Ok c) = refl
+reading-back (Err e) = ap Err (error-back e)
 
-pub reading-apart : (a b : Reading) → reading_parsed a ≡ reading_parsed b → a ≡ b
+pub reading-apart : (a b : Result Counts CoeffTableCodecError) → reading_parsed a ≡ reading_parsed b → a ≡ b
 reading-apart a b e = apart reading_parsed reading_of reading-back a b e
 
-abbrev rewriting_of : Parsed ℕ → Rewriting
-rewriting_of (ok n bytes) = Rewriting.Written n bytes
-rewriting_of (refused r) = cond (eqb r.number 17) Rewriting.TargetTooShort (Rewriting.Refused (error_of r))
+abbrev rewriting_of : Parsed ℕ → Result Written RewriteError
+rewriting_of (ok n bytes) = Ok (record { entries = n; bytes = bytes })
+rewriting_of (refused r) = cond (eqb r.number 17) (Err RewriteError.TargetTooShort) (Err (RewriteError.Refused (error_of r)))
 
-rewriting-refused : (e : CoeffTableCodecError) → rewriting_of (refused (refusal_of e)) ≡ Rewriting.Refused e
+rewriting-refused : (e : CoeffTableCodecError) → rewriting_of (refused (refusal_of e)) ≡ Err (RewriteError.Refused e)
 rewriting-refused CoeffTableCodecError.TooLong = refl
 rewriting-refused CoeffTableCodecError.UnexpectedEof = refl
 rewriting-refused CoeffTableCodecError.BadMagic = refl
@@ -73,58 +73,58 @@ rewriting-refused CoeffTableCodecError.BadUtf8 = refl
 rewriting-refused (CoeffTableCodecError.MalformedEntry i) = refl
 rewriting-refused (CoeffTableCodecError.InconsistentNoiseBandSpan f i) = refl
 
-rewriting-back : (r : Rewriting) → rewriting_of (rewriting_parsed r) ≡ r
-rewriting-back (Rewriting.Written n bytes) = refl
-rewriting-back (Rewriting.Refused e) = rewriting-refused e
-rewriting-back Rewriting.TargetTooShort = refl
+rewriting-back : (r : Result Written RewriteError) → rewriting_of (rewriting_parsed r) ≡ r
+rewriting-back (Ok w) = refl
+rewriting-back (Err (RewriteError.Refused e)) = rewriting-refused e
+rewriting-back (Err RewriteError.TargetTooShort) = refl
 
-pub rewriting-apart : (a b : Rewriting) → rewriting_parsed a ≡ rewriting_parsed b → a ≡ b
+pub rewriting-apart : (a b : Result Written RewriteError) → rewriting_parsed a ≡ rewriting_parsed b → a ≡ b
 rewriting-apart a b e = apart rewriting_parsed rewriting_of rewriting-back a b e
 
-abbrev found_of : Option ℕ → Found
-found_of (some v) = Found.Bits v
-found_of none = Found.Nothing
+abbrev found_of : Option ℕ → CodeOption ℕ
+found_of (some v) = Some v
+found_of none = None
 
-found_back : (f : Found) → found_of (found_bits f) ≡ f
-found_back (Found.Bits v) = refl
-found_back Found.Nothing = refl
+found_back : (f : CodeOption ℕ) → found_of (found_bits f) ≡ f
+found_back (Some v) = refl
+found_back None = refl
 
-pub found-apart : (a b : Found) → found_bits a ≡ found_bits b → a ≡ b
+pub found-apart : (a b : CodeOption ℕ) → found_bits a ≡ found_bits b → a ≡ b
 found-apart a b e = apart found_bits found_of found_back a b e
 
-abbrev view_found : Option EntryView → EntryFound
-view_found (some v) = EntryFound.Entry v
-view_found none = EntryFound.Nothing
+abbrev view_found : Option EntryView → CodeOption EntryView
+view_found (some v) = Some v
+view_found none = None
 
-view-back : (f : EntryFound) → view_found (found_view f) ≡ f
-view-back (EntryFound.Entry v) = refl
-view-back EntryFound.Nothing = refl
+view-back : (f : CodeOption EntryView) → view_found (found_view f) ≡ f
+view-back (Some v) = refl
+view-back None = refl
 
-pub entry-found-apart : (a b : EntryFound) → found_view a ≡ found_view b → a ≡ b
+pub entry-found-apart : (a b : CodeOption EntryView) → found_view a ≡ found_view b → a ≡ b
 entry-found-apart a b e = apart found_view view_found view-back a b e
 
-abbrev desk_read : Outcome → DeskRead
-desk_read (desk d) = DeskRead.Desk d
-desk_read (refused_by r) = DeskRead.Refused (error_of r)
+abbrev desk_read : Outcome → Result Desk CoeffTableCodecError
+desk_read (desk d) = Ok d
+desk_read (refused_by r) = Err (error_of r)
 
-desk-back : (r : DeskRead) → desk_read (desk_answer r) ≡ r
-desk-back (DeskRead.Desk d) = refl
-desk-back (DeskRead.Refused e) = ap DeskRead.Refused (error-back e)
+desk-back : (r : Result Desk CoeffTableCodecError) → desk_read (desk_answer r) ≡ r
+desk-back (Ok d) = refl
+desk-back (Err e) = ap Err (error-back e)
 
-pub desk-apart : (a b : DeskRead) → desk_answer a ≡ desk_answer b → a ≡ b
+pub desk-apart : (a b : Result Desk CoeffTableCodecError) → desk_answer a ≡ desk_answer b → a ≡ b
 desk-apart a b e = apart desk_answer desk_read desk-back a b e
 
 -- what entry_at says of its answer fixes it: the meaning fixes the entry or the refusal, and a view is that of its entry at the position
-pub entry-read-apart : (s : List ℕ) (at : ℕ) (a b : EntryRead) → PlacedRead s at a → PlacedRead s at b → entry_parsed s a ≡ entry_parsed s b → a ≡ b
-entry-read-apart s at (EntryRead.Entry v) (EntryRead.Entry w) p q e =
+pub entry-read-apart : (s : List ℕ) (at : ℕ) (a b : Result EntryView CoeffTableCodecError) → PlacedRead s at a → PlacedRead s at b → entry_parsed s a ≡ entry_parsed s b → a ≡ b
+entry-read-apart s at (Ok v) (Ok w) p q e =
     let x : entry_at s v ≡ entry_at s w = cc in
-    ap EntryRead.Entry (p ∙ ap (view_of at) x ∙ sym q)
-entry-read-apart s at (EntryRead.Entry v) (EntryRead.Refused f) p q e = let z : ◌≡◌ {A = ℕ} 0 1 = cc in absurd (omega arith)
-entry-read-apart s at (EntryRead.Refused f) (EntryRead.Entry w) p q e = let z : ◌≡◌ {A = ℕ} 0 1 = cc in absurd (omega arith)
-entry-read-apart s at (EntryRead.Refused f) (EntryRead.Refused g) p q e =
+    ap Ok (p ∙ ap (view_of at) x ∙ sym q)
+entry-read-apart s at (Ok v) (Err f) p q e = let z : ◌≡◌ {A = ℕ} 0 1 = cc in absurd (omega arith)
+entry-read-apart s at (Err f) (Ok w) p q e = let z : ◌≡◌ {A = ℕ} 0 1 = cc in absurd (omega arith)
+entry-read-apart s at (Err f) (Err g) p q e =
     let x : refusal_of f ≡ refusal_of g = cc in
-    ap EntryRead.Refused (refusal-apart f g x)
+    ap Err (refusal-apart f g x)
 
-pub entry-at-apart : (s : List ℕ) (at index : ℕ) (a b : EntryRead) → entry_parsed s a ≡ entry index s at → PlacedRead s at a
+pub entry-at-apart : (s : List ℕ) (at index : ℕ) (a b : Result EntryView CoeffTableCodecError) → entry_parsed s a ≡ entry index s at → PlacedRead s at a
     → entry_parsed s b ≡ entry index s at → PlacedRead s at b → a ≡ b
 entry-at-apart s at index a b m p n q = entry-read-apart s at a b p q (m ∙ sym n)

@@ -6,7 +6,10 @@ use native.Mathlib.Omega.{arith}
 use lib.Ieee.{of_int, to_bits, round}
 use Rattle.wire.specs.Parse.{Refusal, ok, refused, standing}
 use Rattle.wire.proofs.Many.{whole, stand-go, stand-no, stand-end}
+use Rattle.std.specs.Prelude.{Some, None, unwrap_or}
+use Rattle.std.specs.Prelude.{Option as CodeOption}
 use Rattle.table.specs.declared.desk.Kind.{Kind}
+use Rattle.table.specs.Answer.{found_bits}
 use Rattle.table.specs.Table.{PitchEntry, metadata_value}
 use Rattle.table.specs.Image.{entry}
 use Rattle.table.specs.inner.Entry.{entry_list}
@@ -43,3 +46,8 @@ first-go key d n s at next e z g = first-cons key d n s at (e ∷ standing entry
 
 pub first-no : (key : List ℕ) (d n : ℕ) (s : List ℕ) (at : ℕ) (r : Refusal) → (n ≡ 0 → ⊥) → entry 0 s at ≡ refused r → first_value key d (entry_list n s at) ≡ d
 first-no key d n s at r z g = first-cons key d n s at [] (stand-no entry s 0 n at r (omega arith) g)
+
+-- the code's default is the definitions'
+pub value-or : (o : CodeOption ℕ) (d : ℕ) → unwrap_or o d ≡ value_or (found_bits o) d
+value-or (Some v) d = refl
+value-or None d = refl

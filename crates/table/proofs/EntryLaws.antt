@@ -1,43 +1,21 @@
 -- Laws of an entry, from what the code found at each of its fields. Assumes nothing.
-use Prim.Native.Nat.{ℕ, zero, suc, ◌+◌, ◌*◌, ◌^◌, ◌≤◌, ◌<◌}
+use Prim.Native.Nat.{ℕ, ◌+◌, ◌*◌, ◌^◌, ◌≤◌, ◌<◌, min}
 use mathlib.Core.Path.{◌≡◌, refl, ap, sym, ◌∙◌}
 use mathlib.Core.List.{List}
-use mathlib.Core.Bool.{Bool, false}
+use mathlib.Core.Bool.{Bool, true, false}
 use native.Mathlib.Omega.{arith}
-use native.Mathlib.Nat.{zero-mul, mul_comm, le-mul_of_pos_right, mul-le-mul}
+use native.Mathlib.Decide.{dec_le}
 use lib.ListN.{length, get_or}
-use lib.Dec.{eqb, eqb-zero-suc, eqb-suc-zero, eqb-suc-suc}
-use borrow.Author.Tests.{ne_eqb, lt-ltb, le-ltb}
+use lib.Dec.{eqb}
+use borrow.Author.Tests.{lt-ltb, le-ltb}
 use Rattle.wire.specs.Parse.{Refusal, refusal, Parsed, ok, refused, asked, then}
 use Rattle.wire.specs.Cursor.{u32}
 use Rattle.table.specs.declared.entry.EntryView.{EntryView}
-use Rattle.table.specs.Table.{Pair, coefficient_at, width}
+use Rattle.table.specs.Table.{Pair, has_channel, coefficient_at, width}
 use Rattle.table.specs.Image.{counted, pairs, entry}
 use Rattle.table.specs.View.{entry_at}
 use Rattle.table.specs.inner.Entry.{Numbers, numbers, metadata, entry_by}
 use Rattle.table.proofs.WordLaws.{length-words, word-past}
-
-eqb-sym : (a b : ℕ) → eqb a b ≡ eqb b a
-eqb-sym zero zero = refl
-eqb-sym zero (suc b) = eqb-zero-suc b ∙ sym (eqb-suc-zero b)
-eqb-sym (suc a) zero = eqb-suc-zero a ∙ sym (eqb-zero-suc a)
-eqb-sym (suc a) (suc b) = eqb-suc-suc a b ∙ eqb-sym a b ∙ sym (eqb-suc-suc b a)
-
--- k rows of w columns, by the tests of the code
-pub no_rows : (k w n : ℕ) → k ≡ 0 → eqb (k * w) n ≡ eqb n 0
-no_rows k w n h = rw (h, zero-mul w) (eqb-sym 0 n)
-
-pub too_wide : (k w n : ℕ) → (k ≡ 0 → ⊥) → n < w → eqb (k * w) n ≡ false
-too_wide k w n h p =
-    let q : w ≤ w * k = le-mul_of_pos_right w (omega arith) in
-    ne_eqb (k * w) n (λ e. omega (arith, mul_comm k w))
-
--- a product of two 32-bit numbers, and one more such number, fit 64 bits
-pub product-fits : (a b : ℕ) → a < 2 ^ 32 → b < 2 ^ 32 → a * b ≤ 4294967295 * 4294967295
-product-fits a b p q =
-    let x : a ≤ 4294967295 = omega arith in
-    let y : b ≤ 4294967295 = omega arith in
-    mul-le-mul x y
 
 -- ---- an entry by the parts that the code reads
 abbrev numbers_of : ℕ → ℕ → List ℕ → Numbers
@@ -104,26 +82,25 @@ module _ (s : List ℕ) (v : EntryView) (c column : ℕ) where
   wide : width (entry_at s v) ≡ row
   wide = ap (λ (n : ℕ). n + v.j_noise) (length-words s v.partials_at v.m_partials)
 
-  pub coefficient-none : v.k_channels ≤ c → coefficient_at (entry_at s v) c column ≡ 0
+  pub coefficient-none : has_channel (entry_at s v) c ≡ false → coefficient_at (entry_at s v) c column ≡ 0
   unfolding coefficient_at
-  coefficient-none h = rw (le-ltb c v.k_channels h) refl
+  coefficient-none h = rw h refl
 
-  pub coefficient-past : c < v.k_channels → row ≤ column → coefficient_at (entry_at s v) c column ≡ 0
+  pub coefficient-past : has_channel (entry_at s v) c ≡ true → row ≤ column → coefficient_at (entry_at s v) c column ≡ 0
   unfolding coefficient_at
-  coefficient-past h g = rw (lt-ltb c v.k_channels h, wide, le-ltb column row g) refl
+  coefficient-past h g = rw (h, wide, le-ltb column row g) refl
 
-  pub coefficient-is : c < v.k_channels → column < row → coefficient_at (entry_at s v) c column ≡ get_or (entry_at s v).coefficients (c * row + column) 0
+  coefficient-is : has_channel (entry_at s v) c ≡ true → column < row → coefficient_at (entry_at s v) c column ≡ get_or (entry_at s v).coefficients (c * row + column) 0
   unfolding coefficient_at
-  coefficient-is h g = rw (lt-ltb c v.k_channels h, wide, lt-ltb column row g) refl
+  coefficient-is h g = rw (h, wide, lt-ltb column row g) refl
 
-  -- channel 0 starts the row; a later channel's row is past a list that is shorter than one row
-  pub coefficient-first : c < v.k_channels → column < row → c ≡ 0 → coefficient_at (entry_at s v) c column ≡ get_or (entry_at s v).coefficients column 0
-  coefficient-first h g z = coefficient-is h g ∙ ap (λ (n : ℕ). get_or (entry_at s v).coefficients n 0) (ap (λ (n : ℕ). n * row + column) z ∙ ap (λ (n : ℕ). n + column) (zero-mul row) ∙ start column)
+  -- an index that does not fit is past the last, and so is the largest
+  pub coefficient-at : (i : ℕ) → v.coefficients < 2 ^ 32 → i ≡ min (min (c * row) 0xFFFF_FFFF_FFFF_FFFF + column) 0xFFFF_FFFF_FFFF_FFFF
+      → has_channel (entry_at s v) c ≡ true → column < row → get_or (entry_at s v).coefficients i 0 ≡ coefficient_at (entry_at s v) c column
+  coefficient-at i small e h g = go (dec_le (c * row + column) 0xFFFF_FFFF_FFFF_FFFF) ∙ sym (coefficient-is h g)
     where
-      start : (n : ℕ) → 0 + n ≡ n
-      start n = omega arith
-
-  pub coefficient-short : c < v.k_channels → column < row → (c ≡ 0 → ⊥) → v.coefficients < row → coefficient_at (entry_at s v) c column ≡ 0
-  coefficient-short h g z l =
-      let q : row ≤ row * c = le-mul_of_pos_right row (omega arith) in
-      coefficient-is h g ∙ word-past v.coefficients s v.coefficients_at (c * row + column) (omega (arith, mul_comm c row))
+      go : Dec (c * row + column ≤ 0xFFFF_FFFF_FFFF_FFFF) → get_or (entry_at s v).coefficients i 0 ≡ get_or (entry_at s v).coefficients (c * row + column) 0
+      go (yes k) = let q : i ≡ c * row + column = omega arith in ap (λ (n : ℕ). get_or (entry_at s v).coefficients n 0) q
+      go (no k) =
+          word-past v.coefficients s v.coefficients_at i (omega arith)
+          ∙ sym (word-past v.coefficients s v.coefficients_at (c * row + column) (omega arith))

@@ -1,11 +1,10 @@
 -- What rewriting leaves in the target, by the code's answers. Assumes nothing.
-use Prim.Native.Nat.{ℕ, suc, ◌+◌, ◌-◌, ◌≤◌, ◌<◌}
+use Prim.Native.Nat.{ℕ, ◌+◌, ◌-◌, ◌≤◌, ◌<◌}
 use mathlib.Core.Path.{◌≡◌, refl, ap, sym, ◌∙◌}
 use mathlib.Core.List.{List, [], ◌∷◌, ◌++◌, append_assoc}
 use native.Mathlib.Omega.{arith}
 use lib.ListN.{length, get_or, take, drop, set, length-append, length-drop}
-use lib.Seq.{take-append-le, drop-append-le, take-take, take-add, drop_at, length-take-le, sets-eq, drop-cons, set_at, append_snoc, take-suc}
-use native.Mathlib.Numerals.{add-one}
+use lib.Seq.{take-append-le, drop-append-le, take-take, take-add, drop_at, length-take-le, sets-eq}
 use borrow.Author.Tests.{le-leb, lt-leb}
 use Rattle.wire.specs.Parse.{Refusal, refusal, Parsed, ok, refused}
 use Rattle.table.specs.Table.{CoeffTable}
@@ -84,11 +83,3 @@ module _ (s : List ℕ) (byte : (i : ℕ) → get_or s i 0 < 256) (d : List ℕ)
             written = rw (q, b) (sym (stored-again s t e d w g));
           }
       go (refused r) q k = let z : ◌≡◌ {A = ℕ} 0 1 = cc in absurd (omega arith)
-
--- a turn of the copy
-pub copy_step : (s d : List ℕ) (i : ℕ) → i < length s → i < length d → set (take i s ++ drop i d) i (get_or s i 0) ≡ take (i + 1) s ++ drop (i + 1) d
-copy_step s d i p q =
-    ap (λ (l : List ℕ). set (take i s ++ l) i (get_or s i 0)) (drop-cons d i 0 q)
-    ∙ set_at (take i s) (get_or d i 0) (drop (suc i) d) (get_or s i 0) i (length-take-le i s (omega arith))
-    ∙ sym (append_snoc (take i s) (get_or s i 0) (drop (suc i) d))
-    ∙ rw (add-one, take-suc s i 0 p) refl

@@ -12,11 +12,10 @@ use Rattle.wire.specs.Cursor.{part, u32, string}
 use Rattle.wire.proofs.Found.{u32-is, string-is}
 use Rattle.wire.proofs.Many.{went, asked-ok, many-stand, many-length}
 use Rattle.table.specs.declared.entry.EntryView.{EntryView}
-use Rattle.table.specs.declared.entry.EntryRead.{EntryRead}
 use Rattle.table.specs.Table.{Pair, PitchEntry}
 use Rattle.table.specs.Size.{total, pair_size, entry_size}
 use Rattle.table.specs.Image.{text, counted, pair, pairs, entry}
-use Rattle.table.specs.View.{word_list, pair_list, entry_at, view_of, PlacedRead}
+use Rattle.table.specs.View.{word_list, pair_list, entry_at, view_of}
 use Rattle.table.specs.inner.Answers.{reads}
 use Rattle.table.proofs.WordLaws.{length-words, counted-are}
 
@@ -162,7 +161,3 @@ pub view-reads : (i : ℕ) (s : List ℕ) (at e : ℕ) (v : EntryView) → entry
     → reads (pairs v.pairs s v.pairs_at) ≡ true
 view-reads i s at e v h p =
     ap (λ (w : EntryView). reads (pairs w.pairs s w.pairs_at)) p ∙ (entry-is i s at e (entry_at s v) h).pairs
-
--- what a reader's answer says of its view
-pub placed-view : (s : List ℕ) (at : ℕ) (r : EntryRead) (v : EntryView) → PlacedRead s at r → r ≡ EntryRead.Entry v → v ≡ view_of at (entry_at s v)
-placed-view s at r v p e = rw e at p

@@ -1,47 +1,22 @@
 -- Laws of question 7: equality of bit patterns as floats, and one pass over the entries. Assumes nothing.
-use Prim.Native.Nat.{ℕ, suc, ◌+◌, ◌-◌, ◌%◌, ◌≤◌, ◌<◌}
+use Prim.Native.Nat.{ℕ, suc, ◌+◌, ◌-◌, ◌≤◌, ◌<◌}
 use mathlib.Core.Path.{◌≡◌, refl, ap, sym, ◌∙◌}
 use mathlib.Core.List.{List, [], ◌∷◌}
 use mathlib.Core.Bool.{Bool, true, false, ◌&&◌, cond}
 use native.Mathlib.Omega.{arith}
 use lib.ListN.{length}
-use lib.Ieee.{Float, nan, inf, fin, binary32, eq, is_nan, of_bits, nan_bits}
-use lib.Ieee.Bits.{nan_bits_is, nan_bits_above}
-use borrow.Author.Tests.{lt-ltb, le-ltb}
 use Rattle.wire.specs.Parse.{Refusal, Parsed, ok, refused, then, many}
 use Rattle.wire.proofs.Many.{many-go, many-no, many-end}
+use Rattle.std.specs.Prelude.{Result, Ok, Err, is_ok}
+use Rattle.table.specs.declared.error.CoeffTableCodecError.{CoeffTableCodecError}
+use Rattle.table.specs.declared.read.Counts.{Counts}
 use Rattle.table.specs.declared.span.Span.{Span}
 use Rattle.table.specs.declared.span.Baseline.{Baseline}
 use Rattle.table.specs.Table.{PitchEntry}
 use Rattle.table.specs.Image.{entry}
 use Rattle.table.specs.Span.{span_of, float_eq, Verdict, agreed, broken, inconsistent, agree, consistent, agrees}
+use Rattle.table.specs.Answer.{reading_parsed}
 use Rattle.table.specs.inner.Baseline.{judged, verdict_from, concluded, answer_from}
-
-true-false : false ≡ true → ⊥
-true-false h = let z : ◌≡◌ {A = ℕ} 0 1 = cc in omega arith
-
--- a NaN equals nothing
-pub nan-bits : (n : ℕ) → 0x7F800000 < n % 0x80000000 → is_nan (of_bits binary32 n) ≡ true
-nan-bits n h = sym (nan_bits_is binary32 n) ∙ nan_bits_above binary32 n ∙ lt-ltb 0x7F800000 (n % 0x80000000) h
-
-pub no_nan : (n : ℕ) → n % 0x80000000 ≤ 0x7F800000 → nan_bits binary32 n ≡ false
-no_nan n h = nan_bits_above binary32 n ∙ le-ltb 0x7F800000 (n % 0x80000000) h
-
-pub nan_left : (x y : Float) → is_nan x ≡ true → eq x y ≡ false
-unfolding is_nan eq
-nan_left nan y h = refl
-nan_left (inf s) y h = absurd (true-false h)
-nan_left (fin s m e) y h = absurd (true-false h)
-
-pub nan_right : (x y : Float) → is_nan y ≡ true → eq x y ≡ false
-unfolding is_nan eq
-nan_right nan y h = refl
-nan_right (inf s) nan h = refl
-nan_right (inf s) (inf t) h = absurd (true-false h)
-nan_right (inf s) (fin t n d) h = absurd (true-false h)
-nan_right (fin s m e) nan h = refl
-nan_right (fin s m e) (inf t) h = absurd (true-false h)
-nan_right (fin s m e) (fin t n d) h = absurd (true-false h)
 
 -- one entry more: the verdict from what the pass held before it is the one from what it holds after
 by-equality : (b : Bool) (x y : ℕ) (i : ℕ) (es : List PitchEntry)
@@ -95,16 +70,20 @@ module _ (e f : PitchEntry) where
   unfolding verdict_from
   both-judged = sym (verdict-step Baseline.Start 0 e (f ∷ []) ∙ verdict-step (judged Baseline.Start 0 (span_of e)) 1 f [])
 
-  pub both-agree : (n at : ℕ) → concluded both 2 0 ≡ ok n at → true ≡ agrees (consistent (e ∷ f ∷ []))
-  both-agree n at h = go both h ∙ ap agrees both-judged
+  -- whether the pass answered with a value is what the verdict says
+  pub both-agree : (r : Result Counts CoeffTableCodecError) → reading_parsed r ≡ concluded both 2 0 → is_ok r ≡ agrees (consistent (e ∷ f ∷ []))
+  both-agree r h = go r both h ∙ ap agrees both-judged
     where
-      go : (v : Verdict) → concluded v 2 0 ≡ ok n at → true ≡ agrees v
-      go agreed k = refl
-      go (broken r) k = let z : ◌≡◌ {A = ℕ} 0 1 = cc in absurd (omega arith)
+      go : (r : Result Counts CoeffTableCodecError) (v : Verdict) → reading_parsed r ≡ concluded v 2 0 → is_ok r ≡ agrees v
+      go (Ok c) agreed k = refl
+      go (Ok c) (broken q) k = let z : ◌≡◌ {A = ℕ} 0 1 = cc in absurd (omega arith)
+      go (Err x) agreed k = let z : ◌≡◌ {A = ℕ} 0 1 = cc in absurd (omega arith)
+      go (Err x) (broken q) k = refl
 
-  pub both-differ : (r : Refusal) → concluded both 2 0 ≡ refused r → false ≡ agrees (consistent (e ∷ f ∷ []))
-  both-differ r h = go both h ∙ ap agrees both-judged
-    where
-      go : (v : Verdict) → concluded v 2 0 ≡ refused r → false ≡ agrees v
-      go agreed k = let z : ◌≡◌ {A = ℕ} 0 1 = cc in absurd (omega arith)
-      go (broken q) k = refl
+-- of entries that nothing broke the answer is their counts
+pub unbroken : (j : Baseline) (n end : ℕ) → ((f i : ℕ) → j ≡ Baseline.Broken f i → ⊥) → ok n end ≡ concluded (verdict_from j n []) n end
+unfolding verdict_from agree
+unbroken Baseline.Start n end h = refl
+unbroken Baseline.Neither n end h = refl
+unbroken (Baseline.Both a b) n end h = refl
+unbroken (Baseline.Broken f i) n end h = absurd (h f i refl)

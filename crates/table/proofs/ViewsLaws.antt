@@ -6,9 +6,12 @@ use native.Mathlib.Omega.{arith}
 use lib.ListN.{length, take, set, replicate, length-map, length-append}
 use lib.Dec.{leb}
 use lib.Seq.{length-take-le, set-append_seam, set_out}
-use Rattle.wire.specs.Parse.{Refusal, refusal, Parsed, ok, refused, asked, then, many, standing}
+use Rattle.wire.specs.Parse.{refusal, ok, asked, then, many, standing}
 use Rattle.wire.proofs.Many.{went, asked-ok, many-length, stand-go, stand-end}
+use Rattle.std.specs.Prelude.{Result, Ok, Err, IfOk}
 use Rattle.table.specs.declared.entry.EntryView.{EntryView}
+use Rattle.table.specs.declared.error.CoeffTableCodecError.{CoeffTableCodecError}
+use Rattle.table.specs.declared.views.Views.{Views}
 use Rattle.table.specs.Table.{CoeffTable, PitchEntry}
 use Rattle.table.specs.Size.{entry_size}
 use Rattle.table.specs.Image.{Header, header, entry, entries}
@@ -16,13 +19,12 @@ use Rattle.table.specs.Span.{consistent, ruled}
 use Rattle.table.specs.Decode.{decode}
 use Rattle.table.specs.View.{entry_at, view_of}
 use Rattle.table.specs.inner.Entry.{entry_list}
-use Rattle.table.specs.Views.{no_view, views_from, views_of}
+use Rattle.table.specs.Views.{no_view, views_from, views_of, views_parsed}
 use Rattle.table.specs.inner.KeptViews.{viewed}
-use Rattle.table.specs.inner.KeptViews.{kept_views}
 use Rattle.table.specs.Answer.{counts}
 use Rattle.table.proofs.SizeLaws.{entry-is, entry-end}
 use Rattle.table.proofs.HeaderLaws.{header-end}
-use Rattle.table.proofs.ReadLaws.{read_table, refused-is}
+use Rattle.table.proofs.ReadLaws.{read_table}
 
 pub viewed-length : (s : List ℕ) (views : List EntryView) (n : ℕ) → n ≤ length views → length (viewed s views n) ≡ n
 viewed-length s views n h = length-map (take n views) (entry_at s) ∙ length-take-le n views h
@@ -69,20 +71,15 @@ module _ (s : List ℕ) (views : List EntryView) (i n at : ℕ) where
   unfolding put_views
   put-end h = rw (stand-end entry s i n at h) refl
 
--- what is kept, by the answer
-module _ (r : Parsed ℕ) (at : ℕ) (es : List PitchEntry) where
-  pub kept-all : (n e : ℕ) → r ≡ ok n e → kept_views r at es ≡ views_from 16 at es
-  kept-all n e h = rw h refl
-
-  pub kept-none : (e : Refusal) → r ≡ refused e → kept_views r at es ≡ replicate 16 no_view
-  kept-none e h = rw h refl
-
 -- LAW: the views kept of the entries after an image's header are the image's
-pub kept-are : (s : List ℕ) (d : Header) (at : ℕ) (r : Parsed ℕ) → header s 0 ≡ ok d at → r ≡ counts (decode s)
-    → kept_views r at (entry_list d.count s at) ≡ views_of (decode s)
-kept-are s d at (ok n e) g h =
-    rw (read_table s d at n e (sym h) g, ← header-end s at d g) refl
-kept-are s d at (refused r) g h = rw (refused-is s r (sym h)) refl
+pub kept-are : (s : List ℕ) (d : Header) (at n e : ℕ) → header s 0 ≡ ok d at → counts (decode s) ≡ ok n e
+    → views_from 16 at (entry_list d.count s at) ≡ views_of (decode s)
+kept-are s d at n e g h = rw (read_table s d at n e h g, ← header-end s at d g) refl
+
+pub kept-all : (s : List ℕ) (d : Header) (at : ℕ) (r : Result Views CoeffTableCodecError) → header s 0 ≡ ok d at → views_parsed r ≡ counts (decode s)
+    → IfOk r (λ v. v.views ≡ views_from 16 at (entry_list d.count s at)) → IfOk r (λ v. v.views ≡ views_of (decode s))
+kept-all s d at (Ok v) g h k = k ∙ kept-are s d at _ _ g (sym h)
+kept-all s d at (Err e) g h k = tt
 
 -- LAW: the views of an accepted image of at most 16 entries lead to its entries
 lead-back : (s : List ℕ) (n i k at e : ℕ) (es : List PitchEntry) → n ≤ k → many entry i n s at ≡ ok es e → viewed s (views_from k at es) n ≡ es

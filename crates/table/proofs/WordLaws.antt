@@ -5,16 +5,12 @@ use mathlib.Core.List.{List, [], ◌∷◌}
 use native.Mathlib.Omega.{arith}
 use native.Mathlib.Decide.{dec_le}
 use lib.ListN.{length, get_or, get_or-eq_default}
-use Rattle.wire.specs.declared.cursor.Cursor.{Cursor}
-use Rattle.wire.specs.Parse.{Parsed, ok, refused, then, many}
+use Rattle.wire.specs.Parse.{Refusal, ok, refused, then, many}
 use Rattle.wire.specs.Cursor.{le32, u32, take_at, unexpected_eof}
-use Rattle.wire.proofs.Found.{u32-got, u32-short, u32-is, take-is, take_short}
+use Rattle.wire.proofs.Found.{u32-got, u32-short, u32-is, take-is, take_short, take_eof}
 use Rattle.wire.proofs.Many.{went}
-use Rattle.wire.proofs.Apart.{cursor}
-use Rattle.table.specs.declared.entry.Counted.{Counted}
 use Rattle.table.specs.Image.{counted}
 use Rattle.table.specs.View.{word_list}
-use Rattle.table.specs.inner.Answers.{placed_count}
 
 pub length-words : (s : List ℕ) (at n : ℕ) → length (word_list s at n) ≡ n
 unfolding word_list
@@ -56,9 +52,9 @@ counted-are s at e l h =
     rw (← (u32-is s at n m g).end) (words_are n 0 s m e l h₁)
 
 -- a count and its numbers, by what the code found
-pub counted_none : (s : List ℕ) (at : ℕ) → u32 s at ≡ refused unexpected_eof → counted s at ≡ refused unexpected_eof
+pub counted_none : (s : List ℕ) (at : ℕ) (r : Refusal) → u32 s at ≡ refused r → counted s at ≡ refused r
 unfolding counted
-counted_none s at e = rw e refl
+counted_none s at r e = rw e refl
 
 pub counted-ok : (s : List ℕ) (at n start a end : ℕ) → u32 s at ≡ ok n start → take_at (4 * n) s start ≡ ok a end → counted s at ≡ ok (word_list s start n) end
 unfolding counted
@@ -66,35 +62,12 @@ counted-ok s at n start a end e f =
     let w = take-is s start (4 * n) a end f in
     rw (e, words-ok n 0 s start w.there, w.end) refl
 
-pub counted-short : (s : List ℕ) (at n start : ℕ) → u32 s at ≡ ok n start → take_at (4 * n) s start ≡ refused unexpected_eof → counted s at ≡ refused unexpected_eof
+pub counted-short : (s : List ℕ) (at n start : ℕ) (r : Refusal) → u32 s at ≡ ok n start → take_at (4 * n) s start ≡ refused r → counted s at ≡ refused r
 unfolding counted
-counted-short s at n start e f =
+counted-short s at n start r e f =
     let w = u32-is s at n start e in
-    rw (e, words-short n 0 s start (omega arith) (take_short s start (4 * n) unexpected_eof f)) refl
-
--- where they stand
-pub count-placed : (s : List ℕ) (at n start a : ℕ) (d : Cursor) → u32 s at ≡ ok n start → take_at (4 * n) s start ≡ ok a d.at
-    → Counted.Words n start d ≡ placed_count at (ok (word_list s start n) d.at)
-count-placed s at n start a d e f =
-    let p : start ≡ at + 4 = (u32-is s at n start e).end in
-    let q : d.at ≡ at + 4 + 4 * n = (take-is s start (4 * n) a d.at f).end ∙ ap (λ (x : ℕ). x + 4 * n) p in
-    let r : d ≡ cursor (at + 4 + 4 * n) = ap cursor q in
-    rw (length-words s start n, p, r) refl
-
-pub record Runs (at n a : ℕ) (c : Cursor) : Type 0 where
-  pub start : a ≡ at + 4
-  pub end : c.at ≡ at + 4 + 4 * n
-
-pub count_runs : (s : List ℕ) (at n a : ℕ) (c : Cursor) → Counted.Words n a c ≡ placed_count at (counted s at) → Runs at n a c
-count_runs s at n a c h = go (counted s at) h
-  where
-    go : (p : Parsed (List ℕ)) → Counted.Words n a c ≡ placed_count at p → Runs at n a c
-    go (ok l e) h =
-        let x : n ≡ length l = cc in
-        let q : c ≡ cursor (at + 4 + 4 * length l) = cc in
-        let r : c.at ≡ at + 4 + 4 * length l = ap (λ (y : Cursor). y.at) q in
-        record { start = cc; end = omega arith }
-    go (refused r) h = let z : ◌≡◌ {A = ℕ} 0 1 = cc in absurd (omega arith)
+    let q : r ≡ unexpected_eof = take_eof s start (4 * n) r f in
+    rw (e, words-short n 0 s start (omega arith) (take_short s start (4 * n) r f), q) refl
 
 -- one of them by its index
 pub word-at-index : (n : ℕ) (s : List ℕ) (at i : ℕ) → i < n → get_or (word_list s at n) i 0 ≡ le32 s (at + 4 * i)

@@ -1,12 +1,12 @@
 -- What the desk gets after questions 1 to 7: a voice's band count, and the noise-band span from the table's first entry.
-use Rattle.std.specs.Prelude.{cond, ℕ, max, List, [], ◌∷◌, pos}
+use Rattle.std.specs.Prelude.{cond, ℕ, max, List, [], ◌∷◌, pos, Result, Ok, Err}
 use Rattle.std.proofs.Math.Option.{Option, some, none}
 use Rattle.std.specs.Float.{binary32}
 use Rattle.std.specs.Float.Ieee.{of_int, to_bits}
 use Rattle.wire.specs.Parse.{Refusal, Parsed, ok, refused}
 use Rattle.table.specs.declared.desk.Kind.{Kind}
 use Rattle.table.specs.declared.desk.Desk.{Desk}
-use Rattle.table.specs.declared.desk.DeskRead.{DeskRead}
+use Rattle.table.specs.declared.error.CoeffTableCodecError.{CoeffTableCodecError}
 use Rattle.table.specs.Table.{PitchEntry, CoeffTable, has_channel, metadata_value}
 use Rattle.table.specs.Span.{min_key, max_key}
 use Rattle.table.specs.Answer.{refusal_of}
@@ -53,6 +53,6 @@ abbrev pub desk_outcome : Kind → Parsed CoeffTable → Outcome
 desk_outcome k (ok t end) = desk (desk_of k t.entries)
 desk_outcome k (refused r) = refused_by r
 
-abbrev pub desk_answer : DeskRead → Outcome
-desk_answer (DeskRead.Desk d) = desk d
-desk_answer (DeskRead.Refused e) = refused_by (refusal_of e)
+abbrev pub desk_answer : Result Desk CoeffTableCodecError → Outcome
+desk_answer (Ok d) = desk d
+desk_answer (Err e) = refused_by (refusal_of e)

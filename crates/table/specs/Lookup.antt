@@ -1,9 +1,9 @@
 -- The entry with an index in a table, and where it stands in the image.
-use Rattle.std.specs.Prelude.{ℕ, zero, suc, ◌+◌, List, [], ◌∷◌, length}
+use Rattle.std.specs.Prelude.{ℕ, zero, suc, ◌+◌, List, [], ◌∷◌, length, Some, None}
+use Rattle.std.specs.Prelude.{Option as CodeOption}
 use Rattle.std.proofs.Math.Option.{Option, some, none}
 use Rattle.wire.specs.Parse.{Parsed, ok, refused}
 use Rattle.table.specs.declared.entry.EntryView.{EntryView}
-use Rattle.table.specs.declared.lookup.EntryFound.{EntryFound}
 use Rattle.table.specs.Table.{PitchEntry, CoeffTable}
 use Rattle.table.specs.Size.{entry_size}
 use Rattle.table.specs.View.{view_of}
@@ -19,6 +19,6 @@ abbrev pub view_of_index : Parsed CoeffTable → ℕ → Option EntryView
 view_of_index (ok t end) i = view_from (14 + length t.name) t.entries i
 view_of_index (refused r) i = none
 
-abbrev pub found_view : EntryFound → Option EntryView
-found_view (EntryFound.Entry v) = some v
-found_view EntryFound.Nothing = none
+abbrev pub found_view : CodeOption EntryView → Option EntryView
+found_view (Some v) = some v
+found_view None = none

@@ -1,7 +1,8 @@
 -- Rewriting an image into a target: questions 1 to 7 of the image, then question 17, does the target hold the rewritten image?
-use Rattle.std.specs.Prelude.{ℕ, List, ◌++◌, Bool, cond, length, drop, leb}
-use Rattle.wire.specs.Parse.{refusal, Parsed, ok, refused}
-use Rattle.table.specs.declared.rewrite.Rewriting.{Rewriting}
+use Rattle.std.specs.Prelude.{ℕ, List, ◌++◌, Bool, cond, length, drop, leb, Result, Ok, Err}
+use Rattle.wire.specs.Parse.{Refusal, refusal, Parsed, ok, refused}
+use Rattle.table.specs.declared.rewrite.Written.{Written}
+use Rattle.table.specs.declared.rewrite.RewriteError.{RewriteError}
 use Rattle.table.specs.Table.{CoeffTable}
 use Rattle.table.specs.Answer.{refusal_of}
 use Rattle.table.specs.Encode.{encode}
@@ -19,7 +20,10 @@ abbrev pub rewritten : Parsed CoeffTable → List ℕ → List ℕ
 rewritten (ok t end) target = cond (holds t (length target)) (encode t ++ drop (length (encode t)) target) target
 rewritten (refused r) target = target
 
-abbrev pub rewriting_parsed : Rewriting → Parsed ℕ
-rewriting_parsed (Rewriting.Written n bytes) = ok n bytes
-rewriting_parsed (Rewriting.Refused e) = refused (refusal_of e)
-rewriting_parsed Rewriting.TargetTooShort = refused (refusal 17 0 0)
+abbrev pub rewrite_refusal : RewriteError → Refusal
+rewrite_refusal (RewriteError.Refused e) = refusal_of e
+rewrite_refusal RewriteError.TargetTooShort = refusal 17 0 0
+
+abbrev pub rewriting_parsed : Result Written RewriteError → Parsed ℕ
+rewriting_parsed (Ok w) = ok w.entries w.bytes
+rewriting_parsed (Err e) = refused (rewrite_refusal e)

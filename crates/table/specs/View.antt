@@ -1,9 +1,9 @@
 -- An entry where it stands in an image: which entry a view is of, and the view of an entry.
-use Rattle.std.specs.Prelude.{ℕ, zero, suc, ◌+◌, ◌*◌, ◌≡◌, List, [], ◌∷◌, length}
+use Rattle.std.specs.Prelude.{ℕ, zero, suc, ◌+◌, ◌*◌, ◌≡◌, List, [], ◌∷◌, length, Result, Ok, Err}
 use Rattle.wire.specs.Parse.{standing}
 use Rattle.wire.specs.Cursor.{le32}
 use Rattle.table.specs.declared.entry.EntryView.{EntryView}
-use Rattle.table.specs.declared.entry.EntryRead.{EntryRead}
+use Rattle.table.specs.declared.error.CoeffTableCodecError.{CoeffTableCodecError}
 use Rattle.table.specs.Table.{Pair, PitchEntry, m_partials}
 use Rattle.table.specs.Size.{entry_size}
 use Rattle.table.specs.Image.{pair}
@@ -46,6 +46,6 @@ view_of at e = record {
 }
 
 -- a view read at a position is that of its entry there; of an entry that could not be read there is nothing to place
-abbrev pub PlacedRead : List ℕ → ℕ → EntryRead → Type 0
-PlacedRead s at (EntryRead.Entry v) = v ≡ view_of at (entry_at s v)
-PlacedRead s at (EntryRead.Refused e) = Unit
+abbrev pub PlacedRead : List ℕ → ℕ → Result EntryView CoeffTableCodecError → Type 0
+PlacedRead s at (Ok v) = v ≡ view_of at (entry_at s v)
+PlacedRead s at (Err e) = Unit

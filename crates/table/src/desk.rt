@@ -7,10 +7,8 @@ ghost use Rattle.table.specs.Answer.{found_bits};
 ghost use Rattle.table.specs.Desk.{bands_of, band_count, value_or, first_value, desk_of, desk_outcome, desk_answer};
 
 use crate::accepted::table_header;
-use crate::entry::{EntryRead, EntryView, entry_at, metadata_value};
+use crate::entry::{EntryView, entry_at, has_channel, metadata_value};
 use crate::error::CoeffTableCodecError;
-use crate::header::HeaderRead;
-use crate::metadata::Found;
 use wire::cursor::Cursor;
 
 // A voice's kind: one channel of the table, or the blend of its channels.
@@ -29,16 +27,10 @@ pub struct Desk {
     pub max_hz: u32,
 }
 
-#[derive(Clone, Copy)]
-pub enum DeskRead {
-    Desk(Desk),
-    Refused(CoeffTableCodecError),
-}
-
 pub fn larger(a: u32, b: u32) -> u32
     ensures { result ≡ max a b }
 {
-    if a < b { b } else { a }
+    a.max(b)
 }
 
 // The bands that an entry gives a voice.
@@ -46,7 +38,13 @@ pub fn bands_of(kind: Kind, v: EntryView) -> u32
     ensures { (s : List ℕ) → result ≡ bands_of kind (entry_at s v) }
 {
     match kind {
-        Kind::Single(channel) => { if channel < v.k_channels { v.j_noise } else { 0 } }
+        Kind::Single(channel) => {
+            if has_channel(v, channel) {
+                v.j_noise
+            } else {
+                0
+            }
+        }
         Kind::Blend => v.j_noise,
     }
 }
@@ -56,30 +54,15 @@ fn bands_among(s: &[u8], c: Cursor, n: usize, kind: Kind) -> u32
     ensures { result ≡ band_count kind (entry_list n s.now c.at) }
 {
     let mut d = c;
-    let mut i = 0;
     let mut best: u32 = 0;
-    while i < n {
-        match entry_at(s, d, i) {
-            EntryRead::Entry(v) => {
-                best = larger(best, bands_of(kind, v));
-                d = Cursor { at: v.end };
-            }
-            EntryRead::Refused(_) => {
-                return best;
-            }
-        }
-        i += 1;
+    for i in 0..n {
+        let Ok(v) = entry_at(s, d, i) else {
+            return best;
+        };
+        best = best.max(bands_of(kind, v));
+        d = Cursor { at: v.end };
     }
     best
-}
-
-fn or_else(f: Found, other: u32) -> u32
-    ensures { result ≡ value_or (found_bits f) other }
-{
-    match f {
-        Found::Bits(v) => v,
-        Found::Nothing => other,
-    }
 }
 
 // A key's value in the first of the n entries at a cursor, or another number.
@@ -90,8 +73,8 @@ fn first_value(s: &[u8], c: Cursor, n: usize, key: &[u8], other: u32) -> u32
         return other;
     }
     match entry_at(s, c, 0) {
-        EntryRead::Entry(v) => or_else(metadata_value(s, v, key), other),
-        EntryRead::Refused(_) => other,
+        Ok(v) => metadata_value(s, v, key).unwrap_or(other),
+        Err(_) => other,
     }
 }
 
@@ -110,13 +93,9 @@ fn desk_at(s: &[u8], c: Cursor, n: usize, kind: Kind) -> Desk
 }
 
 // What the desk gets of an image for a voice of a kind.
-pub fn for_voice(image: &[u8], kind: Kind) -> DeskRead
+pub fn for_voice(image: &[u8], kind: Kind) -> Result<Desk, CoeffTableCodecError>
     ensures { desk_answer result ≡ desk_outcome kind (decode image.now) }
 {
-    match table_header(image) {
-        HeaderRead::Refused(e) => DeskRead::Refused(e),
-        HeaderRead::Header(h) => {
-            DeskRead::Desk(desk_at(image, Cursor { at: h.end }, h.count as usize, kind))
-        }
-    }
+    let h = table_header(image)?;
+    Ok(desk_at(image, Cursor { at: h.end }, h.count as usize, kind))
 }

@@ -4,75 +4,48 @@ ghost use Rattle.table.specs.Image.{header};
 ghost use Rattle.table.specs.inner.Answers.{header_parsed};
 ghost use Rattle.table.specs.inner.Header.{version, version_parsed, NamePlaced};
 
-use crate::bytes::{part_of, same_bytes};
+use crate::bytes::part_of;
 use crate::error::CoeffTableCodecError;
-use wire::cursor::{Cursor, StringRead, Taken, U16Read, U32Read};
+use wire::cursor::{Cursor, Place, Read};
 use wire::reader::string_from;
 
-// The name is `name` bytes from `name_at`; the entries start at `end`.
+// The entries start at `end`.
 #[derive(Clone, Copy)]
 pub struct HeaderView {
     pub version: u16,
-    pub name_at: usize,
-    pub name: usize,
+    pub name: Place,
     pub count: u32,
     pub end: usize,
 }
 
-#[derive(Clone, Copy)]
-pub enum HeaderRead {
-    Header(HeaderView),
-    Refused(CoeffTableCodecError),
-}
-
-// The version, and the cursor past it.
-#[derive(Clone, Copy)]
-pub enum VersionRead {
-    Version(u16, Cursor),
-    Refused(CoeffTableCodecError),
-}
-
 // The mark and the version: questions 3 and 4.
-fn version_at(s: &[u8]) -> VersionRead
+fn version_at(s: &[u8]) -> Result<Read<u16>, CoeffTableCodecError>
     ensures { version_parsed result ≡ version s.now 0 }
 {
-    let Taken::Part(a, c) = Cursor { at: 0 }.take(s, 4) else {
-        return VersionRead::Refused(CoeffTableCodecError::UnexpectedEof);
-    };
-    if !same_bytes(part_of(s, a, 4), b"MSCT") {
-        return VersionRead::Refused(CoeffTableCodecError::BadMagic);
+    let start = Cursor { at: 0 };
+    let mark = start.take(s, 4)?;
+    if part_of(s, mark.value, 4) != b"MSCT".as_slice() {
+        return Err(CoeffTableCodecError::BadMagic);
     }
-    let U16Read::Value(v, d) = c.u16(s) else {
-        return VersionRead::Refused(CoeffTableCodecError::UnexpectedEof);
-    };
-    if 1 < v {
-        return VersionRead::Refused(CoeffTableCodecError::UnsupportedVersion(v));
+    let version = mark.next.u16(s)?;
+    if 1 < version.value {
+        return Err(CoeffTableCodecError::UnsupportedVersion(version.value));
     }
-    VersionRead::Version(v, d)
+    Ok(version)
 }
 
 // The name is read by a reader that is set past the version.
-pub fn header_at(s: &[u8]) -> HeaderRead
+pub fn header_at(s: &[u8]) -> Result<HeaderView, CoeffTableCodecError>
     ensures means { header_parsed s.now result ≡ header s.now 0 }
     ensures placed { NamePlaced result }
 {
-    match version_at(s) {
-        VersionRead::Refused(e) => HeaderRead::Refused(e),
-        VersionRead::Version(v, d) => match string_from(s, d.at) {
-            StringRead::UnexpectedEof(_) => HeaderRead::Refused(
-                CoeffTableCodecError::UnexpectedEof,
-            ),
-            StringRead::BadUtf8(_) => HeaderRead::Refused(CoeffTableCodecError::BadUtf8),
-            StringRead::Value(b, m, e) => match e.u32(s) {
-                U32Read::UnexpectedEof => HeaderRead::Refused(CoeffTableCodecError::UnexpectedEof),
-                U32Read::Value(n, f) => HeaderRead::Header(HeaderView {
-                    version: v,
-                    name_at: b,
-                    name: m,
-                    count: n,
-                    end: f.at,
-                }),
-            },
-        },
-    }
+    let version = version_at(s)?;
+    let name = string_from(s, version.next.at)?;
+    let count = name.next.u32(s)?;
+    Ok(HeaderView {
+        version: version.value,
+        name: name.value,
+        count: count.value,
+        end: count.next.at,
+    })
 }

@@ -12,7 +12,6 @@ pub mod lookup;
 mod metadata;
 mod span;
 
-pub use metadata::Found;
 pub use span::spans_agree;
 
 pub mod read;

@@ -5,46 +5,33 @@ ghost use Rattle.table.specs.inner.Entry.{entry_list};
 ghost use Rattle.table.specs.Lookup.{view_from, view_of_index, found_view};
 
 use crate::accepted::table_header;
-use crate::entry::{EntryRead, EntryView, entry_at};
-use crate::header::HeaderRead;
+use crate::entry::{EntryView, entry_at};
 use wire::cursor::Cursor;
 
-#[derive(Clone, Copy)]
-pub enum EntryFound {
-    Entry(EntryView),
-    Nothing,
-}
-
 // The entry with an index among the n at a cursor.
-fn entry_among(s: &[u8], c: Cursor, n: usize, index: usize) -> EntryFound
+fn entry_among(s: &[u8], c: Cursor, n: usize, index: usize) -> Option<EntryView>
     ensures { found_view result ≡ view_from c.at (entry_list n s.now c.at) index }
 {
     let mut d = c;
-    let mut i = 0;
-    while i < n {
-        match entry_at(s, d, i) {
-            EntryRead::Entry(v) => {
-                if i == index {
-                    return EntryFound::Entry(v);
-                }
-                d = Cursor { at: v.end };
-            }
-            EntryRead::Refused(_) => {
-                return EntryFound::Nothing;
-            }
+    for i in 0..n {
+        let Ok(v) = entry_at(s, d, i) else {
+            return None;
+        };
+        if i == index {
+            return Some(v);
         }
-        i += 1;
+        d = Cursor { at: v.end };
     }
-    EntryFound::Nothing
+    None
 }
 
 // The entry with an index in an image's table; nothing where the image is refused or has no such entry.
 // A call reads the whole image, then its entries again up to the one asked for: it costs about as much as `from_bytes`, at most twice that.
-pub fn entry(image: &[u8], index: usize) -> EntryFound
+pub fn entry(image: &[u8], index: usize) -> Option<EntryView>
     ensures { found_view result ≡ view_of_index (decode image.now) index }
 {
     match table_header(image) {
-        HeaderRead::Refused(_) => EntryFound::Nothing,
-        HeaderRead::Header(h) => entry_among(image, Cursor { at: h.end }, h.count as usize, index),
+        Ok(h) => entry_among(image, Cursor { at: h.end }, h.count as usize, index),
+        Err(_) => None,
     }
 }

@@ -7,112 +7,95 @@ ghost use Rattle.table.specs.View.{pair_list};
 ghost use Rattle.table.specs.Answer.{found_bits};
 ghost use Rattle.table.specs.inner.Answers.{reads, pair_parsed, skipped_parsed, skips};
 
-use crate::bytes::{part_of, same_bytes};
+use crate::bytes::part_of;
 use crate::error::CoeffTableCodecError;
-use wire::cursor::{Cursor, StringRead, U32Read};
+use wire::cursor::{Cursor, Place, Read};
 
-// What the metadata says of a key: the value's bits, or nothing.
+// A pair: where its key stands, and the value's bits.
 #[derive(Clone, Copy)]
-pub enum Found {
-    Bits(u32),
-    Nothing,
+pub struct PairView {
+    pub key: Place,
+    pub value: u32,
 }
 
-// A pair: where its key starts, the key's length, the value's bits, and the cursor past it.
-#[derive(Clone, Copy)]
-pub enum PairRead {
-    Pair(usize, usize, u32, Cursor),
-    Refused(CoeffTableCodecError),
-}
-
-#[derive(Clone, Copy)]
-pub enum Skipped {
-    To(Cursor),
-    Refused(CoeffTableCodecError),
-}
-
-pub fn pair_at(s: &[u8], c: Cursor) -> PairRead
+#[tactic(auto, unfolding(crate::specs::Image::pair))]
+pub fn pair_at(s: &[u8], c: Cursor) -> Result<Read<PairView>, CoeffTableCodecError>
     ensures { pair_parsed s.now result ≡ pair s.now c.at }
 {
-    match c.string(s) {
-        StringRead::Value(a, n, d) => match d.u32(s) {
-            U32Read::Value(v, next) => PairRead::Pair(a, n, v, next),
-            U32Read::UnexpectedEof => PairRead::Refused(CoeffTableCodecError::UnexpectedEof),
+    let key = c.string(s)?;
+    let value = key.next.u32(s)?;
+    Ok(Read {
+        value: PairView {
+            key: key.value,
+            value: value.value,
         },
-        StringRead::UnexpectedEof(_) => PairRead::Refused(CoeffTableCodecError::UnexpectedEof),
-        StringRead::BadUtf8(_) => PairRead::Refused(CoeffTableCodecError::BadUtf8),
-    }
+        next: value.next,
+    })
 }
 
 // The pair at a cursor, where one was read before: its key is known to be UTF-8, and is not looked into.
-fn pair_again(s: &[u8], c: Cursor) -> PairRead
+fn pair_again(s: &[u8], c: Cursor) -> Result<Read<PairView>, CoeffTableCodecError>
     requires { reads (pair s.now c.at) ≡ true }
     ensures { pair_parsed s.now result ≡ pair s.now c.at }
 {
-    let U32Read::Value(n, d) = c.u32(s) else {
-        return PairRead::Refused(CoeffTableCodecError::UnexpectedEof);
+    let length = c.u32(s)?;
+    let key = Place {
+        start: length.next.at,
+        len: length.value as usize,
     };
-    let at = d.at;
-    let e = Cursor {
-        at: at + (n as usize),
+    let past = Cursor {
+        at: key.start + key.len,
     };
-    match e.u32(s) {
-        U32Read::Value(v, next) => PairRead::Pair(at, n as usize, v, next),
-        U32Read::UnexpectedEof => PairRead::Refused(CoeffTableCodecError::UnexpectedEof),
-    }
+    let value = past.u32(s)?;
+    Ok(Read {
+        value: PairView {
+            key,
+            value: value.value,
+        },
+        next: value.next,
+    })
 }
 
-// The same for any pair; `known` says that one was read there before.
-fn pair_by(s: &[u8], c: Cursor, known: bool) -> PairRead
+// The same for any pair; `known` says that one was read there before. It stays a bool: a closure in its place would need two clauses on
+// itself at each of its three callers.
+fn pair_by(s: &[u8], c: Cursor, known: bool) -> Result<Read<PairView>, CoeffTableCodecError>
     requires { known ≡ true → reads (pair s.now c.at) ≡ true }
     ensures { pair_parsed s.now result ≡ pair s.now c.at }
 {
     if known {
-        return pair_again(s, c);
+        pair_again(s, c)
+    } else {
+        pair_at(s, c)
     }
-    pair_at(s, c)
 }
 
-// Past n pairs. The loop ends at the first pair that is not there, however large n is.
-pub fn skip_pairs(s: &[u8], c: Cursor, n: u32) -> Skipped
+// Past n pairs. The loop ends at the first pair that is not there, however large n is. (`i` has a name for the proof, which counts by it.)
+pub fn skip_pairs(s: &[u8], c: Cursor, n: u32) -> Result<Cursor, CoeffTableCodecError>
     ensures { skipped_parsed result ≡ skips (pairs n s.now c.at) }
 {
     let mut d = c;
-    let mut i: u32 = 0;
-    while i < n {
-        match pair_at(s, d) {
-            PairRead::Pair(_, _, _, next) => {
-                d = next;
-            }
-            PairRead::Refused(e) => {
-                return Skipped::Refused(e);
-            }
-        }
-        i += 1;
+    for i in 0..n {
+        let pair = pair_at(s, d)?;
+        d = pair.next;
     }
-    Skipped::To(d)
+    Ok(d)
 }
 
-// The value of a key among the n pairs at a cursor: of equal keys the first counts. `known` says that they were read before.
-pub fn find(s: &[u8], c: Cursor, n: u32, key: &[u8], known: bool) -> Found
+// The value of a key among the n pairs at a cursor, as bits: of equal keys the first counts. `known` says that they were read before.
+pub fn find(s: &[u8], c: Cursor, n: u32, key: &[u8], known: bool) -> Option<u32>
     requires { known ≡ true → reads (pairs n s.now c.at) ≡ true }
     ensures { found_bits result ≡ metadata_value key.now (pair_list n s.now c.at) }
 {
     let mut d = c;
-    let mut i: u32 = 0;
-    while i < n {
-        match pair_by(s, d, known) {
-            PairRead::Pair(a, m, v, next) => {
-                if same_bytes(part_of(s, a, m), key) {
-                    return Found::Bits(v);
-                }
-                d = next;
-            }
-            PairRead::Refused(_) => {
-                return Found::Nothing;
-            }
+    for i in 0..n {
+        let Ok(pair) = pair_by(s, d, known) else {
+            return None;
+        };
+        let at = pair.value.key;
+        if part_of(s, at.start, at.len) == key {
+            return Some(pair.value.value);
         }
-        i += 1;
+        d = pair.next;
     }
-    Found::Nothing
+    None
 }

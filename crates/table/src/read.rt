@@ -9,53 +9,43 @@ ghost use Rattle.table.specs.inner.Baseline.{answer_from};
 
 use crate::accepted::table_header;
 use crate::bytes::part_of;
-use crate::entry::{EntryRead, entry_at};
+use crate::entry::entry_at;
 use crate::error::CoeffTableCodecError;
-use crate::header::{HeaderRead, header_at};
+use crate::header::header_at;
 use crate::limits::MAX_IMAGE;
 use crate::span::{Baseline, conclude, judge, span_of};
 use wire::cursor::Cursor;
 
-// The entry count and the end of the last entry, or why the image is refused.
+// How many entries a table has, and where the last one ends in its image.
 #[derive(Clone, Copy)]
-pub enum Reading {
-    Accepted(usize, usize),
-    Refused(CoeffTableCodecError),
+pub struct Counts {
+    pub entries: usize,
+    pub end: usize,
 }
 
 // The n entries at a cursor, and question 7 of all. The loop ends at the first entry that is not there, however large n is.
-fn entries_at(s: &[u8], c: Cursor, n: usize) -> Reading
+fn entries_at(s: &[u8], c: Cursor, n: usize) -> Result<Counts, CoeffTableCodecError>
     ensures { reading_parsed result ≡ answer_from Baseline.Start 0 (entries n s.now c.at) }
 {
     let mut d = c;
-    let mut i = 0;
     let mut j = Baseline::Start;
-    while i < n {
-        match entry_at(s, d, i) {
-            EntryRead::Entry(v) => {
-                j = judge(j, i, span_of(s, v, true));
-                d = Cursor { at: v.end };
-            }
-            EntryRead::Refused(e) => {
-                return Reading::Refused(e);
-            }
-        }
-        i += 1;
+    for i in 0..n {
+        let v = entry_at(s, d, i)?;
+        j = judge(j, i, span_of(s, v, true));
+        d = Cursor { at: v.end };
     }
     conclude(j, n, d.at)
 }
 
 // Reads a whole image.
-pub fn from_bytes(image: &[u8]) -> Reading
+pub fn from_bytes(image: &[u8]) -> Result<Counts, CoeffTableCodecError>
     ensures { reading_parsed result ≡ counts (decode image.now) }
 {
     if MAX_IMAGE < image.len() {
-        return Reading::Refused(CoeffTableCodecError::TooLong);
+        return Err(CoeffTableCodecError::TooLong);
     }
-    match header_at(image) {
-        HeaderRead::Refused(e) => Reading::Refused(e),
-        HeaderRead::Header(h) => entries_at(image, Cursor { at: h.end }, h.count as usize),
-    }
+    let h = header_at(image)?;
+    entries_at(image, Cursor { at: h.end }, h.count as usize)
 }
 
 // Where the table's name starts in the image; 0 where the image is refused.
@@ -63,8 +53,8 @@ pub fn name_at(image: &[u8]) -> usize
     ensures { result ≡ name_start (decode image.now) }
 {
     match table_header(image) {
-        HeaderRead::Refused(_) => 0,
-        HeaderRead::Header(h) => h.name_at,
+        Ok(h) => h.name.start,
+        Err(_) => 0,
     }
 }
 
@@ -74,7 +64,7 @@ pub fn name(image: &[u8]) -> &[u8]
     ensures placed { StartsAt image.entry (name_start (decode image.now)) result }
 {
     match table_header(image) {
-        HeaderRead::Refused(_) => &image[..0],
-        HeaderRead::Header(h) => part_of(image, h.name_at, h.name),
+        Ok(h) => part_of(image, h.name.start, h.name.len),
+        Err(_) => &image[..0],
     }
 }

@@ -9,11 +9,12 @@ ghost use Rattle.table.specs.inner.Answers.{reads};
 
 use crate::entry::EntryView;
 use crate::error::CoeffTableCodecError;
-use crate::metadata::{Found, find};
-use crate::read::Reading;
+use crate::metadata::find;
+use crate::read::Counts;
+use std::num::f32_from_bits_with_nan;
 use wire::cursor::Cursor;
 
-// The two keys of the span in one entry, with the values' bits.
+// The two keys of the span in one entry, with the values' bits. A lone key is a third kind beside a pair and none, so this is no Option.
 #[derive(Clone, Copy)]
 pub enum Span {
     Neither,
@@ -30,18 +31,13 @@ pub enum Baseline {
     Broken(usize, usize),
 }
 
-fn span_from(low: Found, high: Found) -> Span
+fn span_from(low: Option<u32>, high: Option<u32>) -> Span
     ensures { result ≡ span_from (found_bits low) (found_bits high) }
 {
-    match low {
-        Found::Bits(a) => match high {
-            Found::Bits(b) => Span::Both(a, b),
-            Found::Nothing => Span::Lone,
-        },
-        Found::Nothing => match high {
-            Found::Bits(_) => Span::Lone,
-            Found::Nothing => Span::Neither,
-        },
+    match (low, high) {
+        (Some(a), Some(b)) => Span::Both(a, b),
+        (None, None) => Span::Neither,
+        _ => Span::Lone,
     }
 }
 
@@ -57,68 +53,43 @@ pub fn span_of(s: &[u8], v: EntryView, known: bool) -> Span
 }
 
 // Whether two bit patterns are equal as floats.
+#[tactic(auto, unfolding(crate::specs::Span::float_eq))]
 fn float_eq(a: u32, b: u32) -> bool
     ensures { result ≡ float_eq a b }
 {
-    if 0x7F800000 < a % 0x80000000 {
-        return false;
-    }
-    if 0x7F800000 < b % 0x80000000 {
-        return false;
-    }
-    f32::from_bits(a) == f32::from_bits(b)
+    f32_from_bits_with_nan(a) == f32_from_bits_with_nan(b)
 }
 
 fn both_eq(x: u32, y: u32, a: u32, b: u32) -> bool
     ensures { result ≡ float_eq x a && float_eq y b }
 {
-    if float_eq(x, a) {
-        return float_eq(y, b);
-    }
-    false
+    float_eq(x, a) && float_eq(y, b)
 }
 
 // The entry with index i, whose span is sp, beside what went before it.
+#[tactic(auto, unfolding(crate::specs::inner::Baseline::judged))]
 pub fn judge(j: Baseline, i: usize, sp: Span) -> Baseline
     ensures { result ≡ judged j i sp }
 {
-    match j {
-        Baseline::Broken(f, b) => Baseline::Broken(f, b),
-        Baseline::Start => match sp {
-            Span::Lone => Baseline::Broken(i, i),
-            Span::Neither => Baseline::Neither,
-            Span::Both(a, b) => Baseline::Both(a, b),
-        },
-        Baseline::Neither => match sp {
-            Span::Lone => Baseline::Broken(i, i),
-            Span::Neither => Baseline::Neither,
-            Span::Both(_, _) => Baseline::Broken(0, i),
-        },
-        Baseline::Both(x, y) => match sp {
-            Span::Lone => Baseline::Broken(i, i),
-            Span::Neither => Baseline::Broken(0, i),
-            Span::Both(a, b) => {
-                if both_eq(x, y, a, b) {
-                    Baseline::Both(x, y)
-                } else {
-                    Baseline::Broken(0, i)
-                }
-            }
-        },
+    match (j, sp) {
+        (Baseline::Broken(f, b), _) => Baseline::Broken(f, b),
+        (_, Span::Lone) => Baseline::Broken(i, i),
+        (Baseline::Start, Span::Neither) => Baseline::Neither,
+        (Baseline::Start, Span::Both(a, b)) => Baseline::Both(a, b),
+        (Baseline::Neither, Span::Neither) => Baseline::Neither,
+        (Baseline::Both(x, y), Span::Both(a, b)) if both_eq(x, y, a, b) => Baseline::Both(x, y),
+        _ => Baseline::Broken(0, i),
     }
 }
 
 // The answer to a reading of n entries that end at a position, from what the pass over them holds.
-pub fn conclude(j: Baseline, n: usize, end: usize) -> Reading
+#[tactic(auto, using(crate::proofs::SpanLaws::unbroken), unfolding(crate::specs::inner::Baseline::verdict_from))]
+pub fn conclude(j: Baseline, n: usize, end: usize) -> Result<Counts, CoeffTableCodecError>
     ensures { reading_parsed result ≡ concluded (verdict_from j n []) n end }
 {
     match j {
-        Baseline::Broken(f, b) => Reading::Refused(CoeffTableCodecError::InconsistentNoiseBandSpan(
-            f, b,
-        )),
-        Baseline::Start => Reading::Accepted(n, end),
-        Baseline::Neither => Reading::Accepted(n, end),
-        Baseline::Both(_, _) => Reading::Accepted(n, end),
+        Baseline::Broken(f, i) => Err(CoeffTableCodecError::InconsistentNoiseBandSpan(f, i)),
+        _ => Ok(Counts { entries: n, end }),
     }
 }
 
@@ -127,8 +98,5 @@ pub fn spans_agree(s: &[u8], v: EntryView, t: &[u8], w: EntryView) -> bool
     ensures { result ≡ agrees (consistent (entry_at s.now v ∷ entry_at t.now w ∷ [])) }
 {
     let j = judge(Baseline::Start, 0, span_of(s, v, false));
-    match conclude(judge(j, 1, span_of(t, w, false)), 2, 0) {
-        Reading::Accepted(_, _) => true,
-        Reading::Refused(_) => false,
-    }
+    conclude(judge(j, 1, span_of(t, w, false)), 2, 0).is_ok()
 }

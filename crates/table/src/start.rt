@@ -4,7 +4,6 @@ ghost use Rattle.table.specs.Decode.{decode};
 ghost use Rattle.table.specs.Start.{start_of};
 
 use crate::accepted::table_header;
-use crate::header::HeaderRead;
 
 // The entry count and the first entry's position; 0 and 0 where the image is refused.
 #[derive(Clone, Copy)]
@@ -17,13 +16,10 @@ pub fn entries_start(image: &[u8]) -> Start
     ensures { result ≡ start_of (decode image.now) }
 {
     match table_header(image) {
-        HeaderRead::Refused(_) => Start { count: 0, at: 0 },
-        HeaderRead::Header(h) => {
-            let n = h.count;
-            Start {
-                count: n as usize,
-                at: h.end,
-            }
-        }
+        Ok(h) => Start {
+            count: h.count as usize,
+            at: h.end,
+        },
+        Err(_) => Start { count: 0, at: 0 },
     }
 }

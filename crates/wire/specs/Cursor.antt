@@ -1,10 +1,10 @@
 -- What stands at a position of the image: little-endian numbers, parts and strings, each with its questions.
--- Every answer of the code that is an enum is given its value and next position, or its refusal, by a definition here.
-use Rattle.std.specs.Prelude.{cond, ℕ, ◌+◌, ◌*◌, List, length, get_or, take, drop, leb}
-use Rattle.wire.specs.declared.cursor.Taken.{Taken}
-use Rattle.wire.specs.declared.cursor.U16Read.{U16Read}
-use Rattle.wire.specs.declared.cursor.U32Read.{U32Read}
-use Rattle.wire.specs.declared.cursor.StringRead.{StringRead}
+-- Every answer of the code is given its value and next position, or its refusal, by a definition here.
+use Rattle.std.specs.Prelude.{cond, ℕ, ◌+◌, ◌*◌, List, length, get_or, take, drop, leb, Result, Ok, Err}
+use Rattle.wire.specs.declared.cursor.WireError.{WireError}
+use Rattle.wire.specs.declared.cursor.Read.{Read}
+pub use Rattle.wire.specs.declared.cursor.Place.{Place}
+use Rattle.wire.specs.declared.cursor.StringError.{StringError}
 use Rattle.wire.specs.Parse.{Refusal, refusal, Parsed, ok, refused, Parser, ◌>>=◌}
 use Rattle.wire.specs.Utf8.{utf8}
 
@@ -37,10 +37,6 @@ unfoldable pub u32 : Parser ℕ
 u32 s at = cond (leb (at + 4) (length s)) (ok (le32 s at) (at + 4)) (refused unexpected_eof)
 
 -- where a string's bytes stand in the image
-pub record Place : Type 0 where
-  pub start : ℕ
-  pub len : ℕ
-
 abbrev pub place : ℕ → ℕ → Place
 place at n = record { start = at; len = n }
 
@@ -70,25 +66,20 @@ unfoldable pub string_end : List ℕ → ℕ → ℕ
 string_end s at = past_length (u32 s at) s at
 
 -- ---- the answers of the code
-abbrev pub taken_parsed : Taken → Parsed ℕ
-taken_parsed (Taken.Part at c) = ok at c.at
-taken_parsed Taken.UnexpectedEof = refused unexpected_eof
+abbrev pub wire_refusal : WireError → Refusal
+wire_refusal WireError.UnexpectedEof = unexpected_eof
+wire_refusal WireError.BadUtf8 = bad_utf8
 
-abbrev pub u16_parsed : U16Read → Parsed ℕ
-u16_parsed (U16Read.Value v c) = ok v c.at
-u16_parsed U16Read.UnexpectedEof = refused unexpected_eof
+-- a part or a number
+abbrev pub read_parsed : Result (Read ℕ) WireError → Parsed ℕ
+read_parsed (Ok r) = ok r.value r.next.at
+read_parsed (Err e) = refused (wire_refusal e)
 
-abbrev pub u32_parsed : U32Read → Parsed ℕ
-u32_parsed (U32Read.Value v c) = ok v c.at
-u32_parsed U32Read.UnexpectedEof = refused unexpected_eof
-
-abbrev pub string_parsed : StringRead → Parsed Place
-string_parsed (StringRead.Value at n c) = ok (place at n) c.at
-string_parsed (StringRead.UnexpectedEof c) = refused unexpected_eof
-string_parsed (StringRead.BadUtf8 c) = refused bad_utf8
+abbrev pub string_parsed : Result (Read Place) StringError → Parsed Place
+string_parsed (Ok r) = ok r.value r.next.at
+string_parsed (Err e) = refused (wire_refusal e.error)
 
 -- the position that the reading of a string came to
-abbrev pub reached : StringRead → ℕ
-reached (StringRead.Value at n c) = c.at
-reached (StringRead.UnexpectedEof c) = c.at
-reached (StringRead.BadUtf8 c) = c.at
+abbrev pub reached : Result (Read Place) StringError → ℕ
+reached (Ok r) = r.next.at
+reached (Err e) = e.reached.at

@@ -2,4 +2,3 @@ pub mod Parse
 pub mod Utf8
 pub mod Cursor
 pub mod Reader
-pub mod inner

@@ -1,10 +1,13 @@
 -- The entries that stand at a position, and an entry in the parts that the code reads by themselves: twice two numbers with a counted list,
 -- then the pairs. Cited by private functions only.
-use Rattle.std.specs.Prelude.{ℕ, ◌+◌, ◌*◌, ◌≡◌, List, length, eqb}
+use Rattle.std.specs.Prelude.{ℕ, ◌+◌, ◌*◌, ◌≡◌, List, length, eqb, Result, Ok, Err}
+use Rattle.wire.specs.declared.cursor.Read.{Read}
+use Rattle.wire.specs.declared.cursor.WireError.{WireError}
 use Rattle.wire.specs.Parse.{refusal, Parsed, ok, refused, Parser, pure, ◌>>=◌, ◌>>◌, require, standing}
-use Rattle.wire.specs.Cursor.{u32}
-use Rattle.table.specs.declared.entry.NumbersRead.{NumbersRead}
-use Rattle.table.specs.declared.entry.PairsRead.{PairsRead}
+use Rattle.wire.specs.Cursor.{u32, wire_refusal}
+use Rattle.table.specs.declared.entry.Counted.{Counted}
+use Rattle.table.specs.declared.entry.NumbersView.{NumbersView}
+use Rattle.table.specs.declared.error.CoeffTableCodecError.{CoeffTableCodecError}
 use Rattle.table.specs.Table.{Pair, PitchEntry}
 use Rattle.table.specs.Image.{counted, pairs, entry}
 use Rattle.table.specs.View.{word_list, pair_list}
@@ -51,18 +54,20 @@ entry_by i = do
   })
 
 -- what the code answers, and where the parts stand
-abbrev pub numbers_parsed : List ℕ → NumbersRead → Parsed Numbers
-numbers_parsed s (NumbersRead.Numbers a b n at c) = ok (record { first = a; second = b; words = word_list s at n }) c.at
-numbers_parsed s NumbersRead.UnexpectedEof = refused (refusal 2 0 0)
+abbrev pub numbers_parsed : List ℕ → Result (Read NumbersView) WireError → Parsed Numbers
+numbers_parsed s (Ok r) = ok
+    (record { first = r.value.first; second = r.value.second; words = word_list s r.value.words.at r.value.words.count })
+    r.next.at
+numbers_parsed s (Err e) = refused (wire_refusal e)
 
-abbrev pub NumbersPlaced : ℕ → NumbersRead → Type 0
-NumbersPlaced start (NumbersRead.Numbers a b n at c) = (at ≡ start + 12) × (c.at ≡ start + 12 + 4 * n)
-NumbersPlaced start NumbersRead.UnexpectedEof = Unit
+abbrev pub NumbersPlaced : ℕ → Result (Read NumbersView) WireError → Type 0
+NumbersPlaced start (Ok r) = (r.value.words.at ≡ start + 12) × (r.next.at ≡ start + 12 + 4 * r.value.words.count)
+NumbersPlaced start (Err e) = Unit
 
-abbrev pub pairs_parsed : List ℕ → PairsRead → Parsed (List Pair)
-pairs_parsed s (PairsRead.Pairs q at c) = ok (pair_list q s at) c.at
-pairs_parsed s (PairsRead.Refused e) = refused (refusal_of e)
+abbrev pub pairs_parsed : List ℕ → Result (Read Counted) CoeffTableCodecError → Parsed (List Pair)
+pairs_parsed s (Ok r) = ok (pair_list r.value.count s r.value.at) r.next.at
+pairs_parsed s (Err e) = refused (refusal_of e)
 
-abbrev pub PairsPlaced : List ℕ → ℕ → PairsRead → Type 0
-PairsPlaced s start (PairsRead.Pairs q at c) = (at ≡ start + 4) × (length (pair_list q s at) ≡ q)
-PairsPlaced s start (PairsRead.Refused e) = Unit
+abbrev pub PairsPlaced : List ℕ → ℕ → Result (Read Counted) CoeffTableCodecError → Type 0
+PairsPlaced s start (Ok r) = (r.value.at ≡ start + 4) × (length (pair_list r.value.count s r.value.at) ≡ r.value.count)
+PairsPlaced s start (Err e) = Unit

@@ -1,10 +1,11 @@
 -- A header in the parts that the code reads by themselves: mark and version, then name and entry count. Where a part starts.
 -- Cited by private functions only.
-use Rattle.std.specs.Prelude.{cond, ℕ, ◌≡◌, List, leb}
+use Rattle.std.specs.Prelude.{cond, ℕ, ◌≡◌, List, leb, Result, Ok, Err}
+use Rattle.wire.specs.declared.cursor.Read.{Read}
 use Rattle.wire.specs.Parse.{refusal, Parsed, ok, refused, Parser, pure, ◌>>=◌, ◌>>◌, require}
 use Rattle.wire.specs.Cursor.{take_at, u16, u32}
-use Rattle.table.specs.declared.header.VersionRead.{VersionRead}
-use Rattle.table.specs.declared.header.HeaderRead.{HeaderRead}
+use Rattle.table.specs.declared.error.CoeffTableCodecError.{CoeffTableCodecError}
+use Rattle.table.specs.declared.header.HeaderView.{HeaderView}
 use Rattle.table.specs.Table.{CoeffTable, same}
 use Rattle.table.specs.Image.{bytes_at, text, magic, Header, header}
 use Rattle.table.specs.Answer.{refusal_of}
@@ -25,14 +26,14 @@ header_by = do
   n ← u32
   pure (record { version = v; name = t; count = n })
 
-abbrev pub version_parsed : VersionRead → Parsed ℕ
-version_parsed (VersionRead.Version v c) = ok v c.at
-version_parsed (VersionRead.Refused e) = refused (refusal_of e)
+abbrev pub version_parsed : Result (Read ℕ) CoeffTableCodecError → Parsed ℕ
+version_parsed (Ok v) = ok v.value v.next.at
+version_parsed (Err e) = refused (refusal_of e)
 
 -- the name of a header starts at byte 10
-abbrev pub NamePlaced : HeaderRead → Type 0
-NamePlaced (HeaderRead.Header h) = h.name_at ≡ 10
-NamePlaced (HeaderRead.Refused e) = Unit
+abbrev pub NamePlaced : Result HeaderView CoeffTableCodecError → Type 0
+NamePlaced (Ok h) = h.name.start ≡ 10
+NamePlaced (Err e) = Unit
 
 -- the header of an accepted image, or why the image is refused
 abbrev pub header_in : Parsed CoeffTable → List ℕ → Parsed Header

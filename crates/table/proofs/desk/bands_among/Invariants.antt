@@ -1,5 +1,5 @@
 use mathlib.Core.Path.{◌≡◌}
-use Prim.Native.Nat.{◌≤◌, ◌-◌, max}
+use Prim.Native.Nat.{◌-◌, max}
 use Rattle.wire.specs.Parse.{standing}
 use Rattle.table.specs.Image.{entry}
 use Rattle.table.specs.inner.Entry.{entry_list}
@@ -7,7 +7,4 @@ use Rattle.table.specs.Desk.{band_count}
 use Rattle.table.proofs.desk.bands_among.Given as goal
 
 abbrev pub invariant-loop-i : goal.invariant-loop-i
-invariant-loop-i l = (l.i ≤ l.n) × (max l.best (band_count l.kind (standing entry l.i (l.n - l.i) l.s l.d.at)) ≡ band_count l.kind (entry_list l.n l.s l.initial.d.at))
-
-abbrev pub decreases-loop-i : goal.decreases-loop-i
-decreases-loop-i l = l.n - l.i
+invariant-loop-i l = max l.best (band_count l.kind (standing entry l.i (l.n - l.i) l.s l.d.at)) ≡ band_count l.kind (entry_list l.n l.s l.initial.d.at)

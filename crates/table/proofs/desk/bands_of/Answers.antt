@@ -1,15 +1,10 @@
-use mathlib.Core.Path.{refl}
-use borrow.Author.Tests.{lt-ltb, le-ltb}
+use mathlib.Core.Path.{refl, sym, ◌∙◌}
 use Rattle.table.proofs.desk.bands_of.Goals as goal
 
-pub returns-then-channel-v : goal.returns-then-channel-v
-returns-then-channel-v c =
-    λ s. rw (c.in-Single.is, lt-ltb _ _ c.if-channel-v.true) refl
+pub returns-then-has_channel : goal.returns-then-has_channel
+returns-then-has_channel c =
+    λ s. rw (c.in-Single.is, sym (c.has_channel.ensures s) ∙ c.if-has_channel.true) refl
 
-pub returns-else-channel-v : goal.returns-else-channel-v
-returns-else-channel-v c =
-    λ s. rw (c.in-Single.is, le-ltb _ _ c.if-channel-v.false) refl
-
-pub returns-in-Blend : goal.returns-in-Blend
-returns-in-Blend c =
-    λ s. rw c.in-Blend.is refl
+pub returns-else-has_channel : goal.returns-else-has_channel
+returns-else-has_channel c =
+    λ s. rw (c.in-Single.is, sym (c.has_channel.ensures s) ∙ c.if-has_channel.false) refl

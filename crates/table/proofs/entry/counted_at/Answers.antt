@@ -1,20 +1,24 @@
-use mathlib.Core.Path.{sym, ap, ◌∙◌}
-use Rattle.wire.specs.Cursor.{u32_parsed, taken_parsed}
-use Rattle.table.specs.inner.Answers.{placed_count}
-use Rattle.table.proofs.WordLaws.{counted_none, counted-ok, counted-short, count-placed}
+use mathlib.Core.Path.{sym}
+use native.Mathlib.Omega.{arith}
+use Rattle.std.proofs.lemmas.Result.{err_from_is_err_and}
+use Rattle.wire.proofs.Found.{u32-is, take-is}
+use Rattle.table.proofs.WordLaws.{counted_none, counted-ok, counted-short}
 use Rattle.table.proofs.entry.counted_at.Goals as goal
 
-pub returns-in_default : goal.returns-in_default
-returns-in_default c =
-    let m = sym (counted_none _ _ (sym c.u32.ensures ∙ ap u32_parsed c.in_default.is)) in record { means = m; placed = ap (placed_count _) m }
+pub returns-in_err-count : goal.returns-in_err-count
+returns-in_err-count c =
+    let p = err_from_is_err_and c.from_residual.result c.from_residual.ensures.1 in
+    rw (p.1, p.2) (record { means = sym (counted_none _ _ _ (sym c.in_err-count.ensures)); placed = tt })
 
-pub returns-in-Part : goal.returns-in-Part
-returns-in-Part c =
-    let e = sym c.u32.ensures ∙ ap u32_parsed c.in-Value.is in
-    let f = sym c.take.ensures ∙ ap taken_parsed c.in-Part.is in
-    let m = sym (counted-ok _ _ _ _ _ _ e f) in
-    record { means = m; placed = count-placed _ _ _ _ _ _ e f ∙ ap (placed_count _) m }
+pub returns-in_err-words : goal.returns-in_err-words
+returns-in_err-words c =
+    let p = err_from_is_err_and c.from_residual-in_err-words.result c.from_residual-in_err-words.ensures.1 in
+    rw (p.1, p.2) (record { means = sym (counted-short _ _ _ _ _ (sym c.in_ok-count.ensures) (sym c.in_err-words.ensures)); placed = tt })
 
-pub returns-in-UnexpectedEof : goal.returns-in-UnexpectedEof
-returns-in-UnexpectedEof c =
-    let m = sym (counted-short _ _ _ _ (sym c.u32.ensures ∙ ap u32_parsed c.in-Value.is) (sym c.take.ensures ∙ ap taken_parsed c.in-UnexpectedEof.is)) in record { means = m; placed = ap (placed_count _) m }
+pub returns : goal.returns
+returns c =
+    let e = sym c.in_ok-count.ensures in
+    let f = sym c.in_ok-words.ensures in
+    let w = u32-is _ _ _ _ e in
+    let v = take-is _ _ _ _ _ f in
+    record { means = rw v.start (sym (counted-ok _ _ _ _ _ _ e f)); placed = (omega arith, omega arith) }

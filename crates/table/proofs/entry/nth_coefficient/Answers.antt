@@ -1,15 +1,15 @@
 use mathlib.Core.Path.{sym, ◌∙◌}
 use Rattle.table.proofs.WordLaws.{word-past, word-outside, word-at-index}
 use Rattle.table.proofs.entry.nth_coefficient.Goals as goal
+use Rattle.table.proofs.entry.nth_coefficient.Goals.{then-v-i-via-then-v-i, then-v-i-via-else-v-i+then-s-at}
 
-pub returns-then-n-i : goal.returns-then-n-i
-returns-then-n-i c =
-    sym (word-past _ _ _ _ c.if-n-i.true)
-
-pub returns-then-s-at : goal.returns-then-s-at
-returns-then-s-at c =
-    sym (word-outside _ c.args.s.now _ _ c.if-n-i.false c.if-s-at.true)
+pub returns-then-v-i : goal.returns-then-v-i
+returns-then-v-i c =
+    elim c.then-v-i.branch [
+      | then-v-i-via-then-v-i w ↦ sym (word-past _ _ _ _ w.if-v-i.true)
+      | then-v-i-via-else-v-i+then-s-at w ↦ sym (word-outside _ c.args.s.now _ _ w.if-v-i.false w.if-s-at.true)
+    ]
 
 pub returns : goal.returns
 returns c =
-    c.word_or.ensures ∙ sym (word-at-index _ _ _ _ c.if-n-i.false)
+    c.word_or.ensures ∙ sym (word-at-index _ _ _ _ c.if-v-i.false)

@@ -1,4 +1,4 @@
-use Prim.Native.Nat.{◌≤◌, ◌-◌}
+use Prim.Native.Nat.{◌-◌}
 use mathlib.Core.Path.{◌≡◌}
 use mathlib.Core.Bool.{true}
 use Rattle.wire.specs.Parse.{many, standing}
@@ -10,9 +10,5 @@ use Rattle.table.proofs.metadata.find.Given as goal
 
 abbrev pub invariant-loop-i : goal.invariant-loop-i
 invariant-loop-i l =
-    (l.i ≤ l.n)
-    × (metadata_value l.key (standing (λ i'. pair) l.i (l.n - l.i) l.s l.d.at) ≡ metadata_value l.key (pair_list l.n l.s l.initial.d.at))
+    (metadata_value l.key (standing (λ i'. pair) l.i (l.n - l.i) l.s l.d.at) ≡ metadata_value l.key (pair_list l.n l.s l.initial.d.at))
     × (l.known ≡ true → reads (many (λ i'. pair) l.i (l.n - l.i) l.s l.d.at) ≡ true)
-
-abbrev pub decreases-loop-i : goal.decreases-loop-i
-decreases-loop-i l = l.n - l.i

@@ -1,4 +1,4 @@
-use Prim.Native.Nat.{◌≤◌, ◌-◌}
+use Prim.Native.Nat.{◌-◌}
 use mathlib.Core.Path.{◌≡◌}
 use Rattle.wire.specs.Parse.{many}
 use Rattle.table.specs.Image.{pair, pairs}
@@ -6,7 +6,4 @@ use Rattle.table.specs.inner.Answers.{skips}
 use Rattle.table.proofs.metadata.skip_pairs.Given as goal
 
 abbrev pub invariant-loop-i : goal.invariant-loop-i
-invariant-loop-i l = (l.i ≤ l.n) × (skips (many (λ i'. pair) l.i (l.n - l.i) l.s l.d.at) ≡ skips (pairs l.n l.s l.initial.d.at))
-
-abbrev pub decreases-loop-i : goal.decreases-loop-i
-decreases-loop-i l = l.n - l.i
+invariant-loop-i l = skips (many (λ i'. pair) l.i (l.n - l.i) l.s l.d.at) ≡ skips (pairs l.n l.s l.initial.d.at)

@@ -1,28 +1,22 @@
-use Rattle.table.proofs.SizeLaws.{view-reads, placed-view}
-use mathlib.Core.Path.{refl, sym, ap, ◌∙◌}
-use native.Mathlib.Omega.{arith}
-use Rattle.wire.proofs.Many.{whole}
-use Rattle.table.specs.Answer.{entry_parsed}
+use mathlib.Core.Path.{sym, ◌∙◌}
+use Rattle.std.proofs.lemmas.Result.{err_from_is_err_and}
+use Rattle.table.proofs.SizeLaws.{view-reads}
 use Rattle.table.proofs.SpanLaws.{entries-go, entries-no, entries-end}
-use borrow.Author.Rules.{rules}
 use Rattle.table.proofs.read.entries_at.Goals as goal
-
-pub loop-i-init : goal.loop-i-init
-loop-i-init c =
-    (search rules, rw whole refl)
 
 pub span_of-requires : goal.span_of-requires
 span_of-requires c =
-    λ k. view-reads c.loop-i.i _ _ _ _ (sym c.entry_at.ensures.means ∙ ap (entry_parsed _) c.in-Entry.is) (placed-view _ _ _ _ c.entry_at.ensures.placed c.in-Entry.is)
+    λ k. view-reads c.loop-i.i _ _ _ _ (sym c.in_ok-v.ensures.means) c.in_ok-v.ensures.placed
 
-pub returns-in-Refused : goal.returns-in-Refused
-returns-in-Refused c =
-    sym (sym c.loop-i.invariant.1 ∙ entries-no _ _ _ _ _ _ c.loop-i-test.true (sym c.entry_at.ensures.means ∙ ap (entry_parsed _) c.in-Refused.is))
+pub returns-in_err-v : goal.returns-in_err-v
+returns-in_err-v c =
+    let p = err_from_is_err_and c.from_residual.result c.from_residual.ensures.1 in
+    rw (p.1, p.2) (sym (sym c.loop-i.invariant ∙ entries-no _ _ _ _ _ _ c.loop-i-test.true (sym c.in_err-v.ensures.means)))
 
 pub loop-i-preserved : goal.loop-i-preserved
 loop-i-preserved c =
-    (omega arith, rw (c.judge-j.ensures, c.span_of.ensures) (sym (entries-go _ _ _ _ _ _ _ c.loop-i-test.true (sym c.entry_at.ensures.means ∙ ap (entry_parsed _) c.in-Entry.is)) ∙ c.loop-i.invariant.1))
+    rw (c.judge-j.ensures, c.span_of.ensures) (sym (entries-go _ _ _ _ _ _ _ c.loop-i-test.true (sym c.in_ok-v.ensures.means)) ∙ c.loop-i.invariant)
 
 pub returns : goal.returns
 returns c =
-    c.conclude.ensures ∙ sym (entries-end _ _ _ _ _ c.loop-i.invariant.0 c.loop-i-test.false) ∙ c.loop-i.invariant.1
+    c.conclude.ensures ∙ sym (entries-end _ _ _ _ _ c.loop-i.auto.i-end c.loop-i-test.false) ∙ c.loop-i.invariant

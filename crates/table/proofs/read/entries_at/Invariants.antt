@@ -1,4 +1,4 @@
-use Prim.Native.Nat.{◌≤◌, ◌-◌}
+use Prim.Native.Nat.{◌-◌}
 use mathlib.Core.Path.{◌≡◌}
 use Rattle.wire.specs.Parse.{many}
 use Rattle.table.specs.declared.span.Baseline.{Baseline}
@@ -7,7 +7,4 @@ use Rattle.table.specs.inner.Baseline.{answer_from}
 use Rattle.table.proofs.read.entries_at.Given as goal
 
 abbrev pub invariant-loop-i : goal.invariant-loop-i
-invariant-loop-i l = (l.i ≤ l.n) × (answer_from l.j l.i (many entry l.i (l.n - l.i) l.s l.d.at) ≡ answer_from Baseline.Start 0 (entries l.n l.s l.initial.d.at))
-
-abbrev pub decreases-loop-i : goal.decreases-loop-i
-decreases-loop-i l = l.n - l.i
+invariant-loop-i l = answer_from l.j l.i (many entry l.i (l.n - l.i) l.s l.d.at) ≡ answer_from Baseline.Start 0 (entries l.n l.s l.initial.d.at)

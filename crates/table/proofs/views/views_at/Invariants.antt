@@ -1,4 +1,4 @@
-use Prim.Native.Nat.{◌≤◌, ◌-◌}
+use Prim.Native.Nat.{◌-◌}
 use mathlib.Core.Path.{◌≡◌}
 use lib.ListN.{length}
 use Rattle.wire.specs.Parse.{many, standing}
@@ -12,8 +12,5 @@ use Rattle.table.proofs.views.views_at.Given as goal
 
 abbrev pub invariant-loop-i : goal.invariant-loop-i
 invariant-loop-i l =
-    (l.i ≤ l.n) × (answer_from l.j l.i (many entry l.i (l.n - l.i) l.s l.d.at) ≡ answer_from Baseline.Start 0 (entries l.n l.s l.initial.d.at)) × (length l.views ≡ 16)
+    (answer_from l.j l.i (many entry l.i (l.n - l.i) l.s l.d.at) ≡ answer_from Baseline.Start 0 (entries l.n l.s l.initial.d.at)) × (length l.views ≡ 16)
     × (put_views l.views l.i l.d.at (standing entry l.i (l.n - l.i) l.s l.d.at) ≡ views_from 16 l.initial.d.at (entry_list l.n l.s l.initial.d.at))
-
-abbrev pub decreases-loop-i : goal.decreases-loop-i
-decreases-loop-i l = l.n - l.i

@@ -1,26 +1,34 @@
-use mathlib.Core.Path.{sym}
-use Rattle.wire.specs.Cursor.{take_at, string_of}
-use Rattle.wire.proofs.Laws.{room, past, lacking, string-good, string-bad}
+use mathlib.Core.Path.{refl, sym}
+use native.Mathlib.Omega.{arith}
+use Rattle.wire.proofs.Found.{take-is, string-good, string-bad, string-refused}
 use Rattle.wire.proofs.cursor.string_of.Goals as goal
 
-pub returns-then-s-at : goal.returns-then-s-at
-unfolding string_of take_at
-returns-then-s-at c =
-    let e = past _ c.args.n _ c.if-s-at.true in
-    record { means = simp e; ends = simp e }
+pub slice_bounds-from_utf8-start : goal.slice_bounds-from_utf8-start
+slice_bounds-from_utf8-start c =
+    let i = take-is c.args.s.now c.args.c.at _ _ _ (sym c.in-Ok.ensures) in
+    omega arith
 
-pub returns-then-from_utf8 : goal.returns-then-from_utf8
-unfolding take_at
-returns-then-from_utf8 c =
-    record { means = sym (string-good _ _ _ c.if-s-at.false c.if-n-s.true _ c.from_utf8.ensures c.if-from_utf8.true); ends = simp (room _ _ _ c.if-s-at.false c.if-n-s.true) }
+pub slice_bounds-from_utf8-end : goal.slice_bounds-from_utf8-end
+slice_bounds-from_utf8-end c =
+    let i = take-is c.args.s.now c.args.c.at _ _ _ (sym c.in-Ok.ensures) in
+    omega arith
 
-pub returns-else-from_utf8 : goal.returns-else-from_utf8
-unfolding take_at
-returns-else-from_utf8 c =
-    record { means = sym (string-bad _ _ _ c.if-s-at.false c.if-n-s.true _ c.from_utf8.ensures c.if-from_utf8.false); ends = simp (room _ _ _ c.if-s-at.false c.if-n-s.true) }
+pub slice_bounds-from_utf8-count : goal.slice_bounds-from_utf8-count
+slice_bounds-from_utf8-count c =
+    let i = take-is c.args.s.now c.args.c.at _ _ _ (sym c.in-Ok.ensures) in
+    omega arith
 
-pub returns-else-n-s : goal.returns-else-n-s
-unfolding string_of take_at
-returns-else-n-s c =
-    let e = lacking _ _ _ c.if-s-at.false c.if-n-s.false in
-    record { means = simp e; ends = simp e }
+pub returns-in-Err : goal.returns-in-Err
+returns-in-Err c =
+    let e = sym c.in-Err.ensures in
+    record { means = sym (string-refused _ _ _ _ e); ends = rw e refl }
+
+pub returns : goal.returns
+returns c =
+    let e = sym c.in-Ok.ensures in
+    record { means = sym (string-good _ _ _ _ _ e _ c.from_utf8.ensures c.if-not-from_utf8.false); ends = rw e refl }
+
+pub returns-then-not-from_utf8 : goal.returns-then-not-from_utf8
+returns-then-not-from_utf8 c =
+    let e = sym c.in-Ok.ensures in
+    record { means = sym (string-bad _ _ _ _ _ e _ c.from_utf8.ensures c.if-not-from_utf8.true); ends = rw e refl }

@@ -1,15 +1,15 @@
-use mathlib.Core.Path.{refl, sym, ap, ◌∙◌}
-use Rattle.wire.specs.Cursor.{string, string_end, u32_parsed}
+use mathlib.Core.Path.{refl, sym}
+use Rattle.wire.specs.Cursor.{string, string_end}
 use Rattle.wire.proofs.cursor.Cursor.string.Goals as goal
 
-pub returns-in-Value : goal.returns-in-Value
+pub returns-in-Ok : goal.returns-in-Ok
 unfolding string string_end
-returns-in-Value c =
-    let e = sym c.u32.ensures ∙ ap u32_parsed c.in-Value.is in
+returns-in-Ok c =
+    let e = sym c.in-Ok.ensures in
     record { means = rw e c.string_of.ensures.means; ends = rw e c.string_of.ensures.ends }
 
-pub returns-in-UnexpectedEof : goal.returns-in-UnexpectedEof
+pub returns-in-Err : goal.returns-in-Err
 unfolding string string_end
-returns-in-UnexpectedEof c =
-    let e = sym c.u32.ensures ∙ ap u32_parsed c.in-UnexpectedEof.is in
+returns-in-Err c =
+    let e = sym c.in-Err.ensures in
     record { means = rw e refl; ends = rw e refl }
