@@ -1,16 +1,14 @@
 -- What windows answer, by what is found when they are looked through.
-use Rattle.std.proofs.Common.{◌≡◌, ℕ, zero, suc, ◌<◌, ◌≤◌, List, [], ◌∷◌, map, length, get_or, take, sym, refl, ap, ◌∙◌, arith, length-take-le, get_or-take, le-ltb, lt-ltb}
+use Rattle.std.proofs.Common.{◌≡◌, ℕ, zero, suc, ◌<◌, ◌≤◌, not, List, [], ◌∷◌, map, length, get_or, Option, Ok, Err, Some, None, sym, refl, ◌∙◌, arith, le-ltb, lt-ltb}
+use Rattle.std.specs.List.{position}
 use lib.ListN.{get_or-eq_default, length-map}
-use lib.Ieee.{Float}
 use Rattle.float.specs.F32.{quotient}
-use Rattle.quiet.specs.Limits.{max_windows, week_minutes}
-use Rattle.quiet.specs.Window.{step_gain}
+use Rattle.quiet.specs.Limits.{week_minutes}
+use Rattle.quiet.specs.Window.{edges_ok, step_ok, holds, step_gain}
 use Rattle.quiet.specs.Plan.{first_where, gain_at, windows_answer}
-use Rattle.quiet.specs.inner.Sought.{is_sought}
 use Rattle.quiet.specs.declared.plan.Window.{Window}
-use Rattle.quiet.specs.declared.answer.PlanAnswer.{PlanAnswer}
-use Rattle.quiet.specs.declared.search.Sought.{Sought}
-use Rattle.quiet.proofs.SearchLaws.{first-at-most}
+use Rattle.quiet.specs.declared.answer.PlanError.{PlanError}
+use Rattle.quiet.proofs.SearchLaws.{first_found, first-none}
 
 -- the gain of a window that is there
 pub gain-at : (l : List Window) (i : ℕ) (d : Window) → i < length l → gain_at l i ≡ step_gain (get_or l i d).step
@@ -23,42 +21,43 @@ pub gain-beyond : (l : List Window) (i : ℕ) → length l ≤ i → gain_at l i
 unfolding gain_at
 gain-beyond l i h = get_or-eq_default (map (λ v. step_gain v.step) l) (quotient 1 1) (rw (length-map l (λ v. step_gain v.step)) h)
 
--- Of at most 64 windows, by the first window that is wrong: the questions in their order.
-module _ (l : List Window) (n w bad_edge bad_step held : ℕ) (len : length l ≡ max_windows) (few : n ≤ max_windows) where
-  abbrev vs : List Window
-  vs = take n l
+-- By what the three searches find: the questions in their order.
+module _ (vs : List Window) (w : ℕ) (edge step held : Option ℕ) (e : edge ≡ position (λ v. not (edges_ok v)) vs) where
+  pub edge-wrong : (i : ℕ) → edge ≡ Some i → Err (PlanError.BadWindow i) ≡ windows_answer vs w
+  unfolding windows_answer
+  edge-wrong i a = let p = first_found (λ v. not (edges_ok v)) vs i (sym e ∙ a) in rw (p.0, lt-ltb i (length vs) p.1)
 
-  size : length vs ≡ n
-  size = length-take-le n l (omega arith)
+  module _ (a : edge ≡ None) (f : step ≡ position (λ v. not (step_ok v)) vs) where
+    abbrev n : ℕ
+    n = length vs
 
-  module _ (e : bad_edge ≡ first_where (is_sought Sought.BadEdge) vs) where
-    pub edge-wrong : bad_edge < n → PlanAnswer.BadWindow bad_edge ≡ windows_answer vs w
-    unfolding windows_answer is_sought
-    edge-wrong h = rw (← e, size, lt-ltb bad_edge n h)
+    no_edge : first_where (λ v. not (edges_ok v)) vs ≡ n
+    no_edge = first-none _ vs (sym e ∙ a)
 
-    module _ (f : bad_step ≡ first_where (is_sought Sought.BadStep) vs) (edges : n ≤ bad_edge) where
-      pub step-wrong : bad_step < n → PlanAnswer.BadStep bad_step ≡ windows_answer vs w
-      unfolding windows_answer is_sought
-      step-wrong h = rw (← e, ← f, size, le-ltb bad_edge n edges, lt-ltb bad_step n h)
+    pub step-wrong : (i : ℕ) → step ≡ Some i → Err (PlanError.BadStep i) ≡ windows_answer vs w
+    unfolding windows_answer
+    step-wrong i b =
+        let p = first_found (λ v. not (step_ok v)) vs i (sym f ∙ b) in
+        rw (no_edge, le-ltb n n (omega arith), p.0, lt-ltb i n p.1)
 
-      module _ (steps : n ≤ bad_step) where
-        pub minute-wrong : week_minutes ≤ w → PlanAnswer.BadMinute ≡ windows_answer vs w
-        unfolding windows_answer is_sought
-        minute-wrong h = rw (← e, ← f, size, le-ltb bad_edge n edges, le-ltb bad_step n steps, le-ltb w week_minutes h)
+    module _ (b : step ≡ None) where
+      no_step : first_where (λ v. not (step_ok v)) vs ≡ n
+      no_step = first-none _ vs (sym f ∙ b)
 
-        module _ (h : w < week_minutes) (g : held ≡ first_where (is_sought (Sought.Minute w)) vs) where
-          none-wrong : PlanAnswer.Gain held (gain_at vs held) ≡ windows_answer vs w
-          unfolding windows_answer is_sought
-          none-wrong = rw (← e, ← f, ← g, size, le-ltb bad_edge n edges, le-ltb bad_step n steps, lt-ltb w week_minutes h)
+      pub minute-wrong : week_minutes ≤ w → Err PlanError.BadMinute ≡ windows_answer vs w
+      unfolding windows_answer
+      minute-wrong h = rw (no_edge, no_step, le-ltb n n (omega arith), le-ltb w week_minutes h)
 
-          pub window-holds :
-              (d : Window) (x : Float) → held < n → x ≡ step_gain (get_or l held d).step → PlanAnswer.Gain held x ≡ windows_answer vs w
-          window-holds d x b q =
-              ap (PlanAnswer.Gain held) (q ∙ rw (← get_or-take n l held d b) (sym (gain-at vs held d (rw size b)))) ∙ none-wrong
+      module _ (h : w < week_minutes) (g : held ≡ position (holds w) vs) where
+        pub window-holds :
+            (i : ℕ) (d : Window) → held ≡ Some i → Ok (record { window = i; gain = step_gain (get_or vs i d).step }) ≡ windows_answer vs w
+        unfolding windows_answer
+        window-holds i d k =
+            let p = first_found (holds w) vs i (sym g ∙ k) in
+            rw (no_edge, no_step, le-ltb n n (omega arith), lt-ltb w week_minutes h, p.0, gain-at vs i d p.1)
 
-          pub none-holds : n ≤ held → PlanAnswer.Gain n (quotient 1 1) ≡ windows_answer vs w
-          none-holds b =
-              let most : first_where (is_sought (Sought.Minute w)) vs ≤ length vs = first-at-most (is_sought (Sought.Minute w)) vs in
-              let last : n ≡ held = omega (arith, size, g, most, b) in
-              ap (λ (i : ℕ). PlanAnswer.Gain i (quotient 1 1)) last
-              ∙ (ap (PlanAnswer.Gain held) (sym (gain-beyond vs held (rw size b))) ∙ none-wrong)
+        pub none-holds : held ≡ None → Ok (record { window = n; gain = quotient 1 1 }) ≡ windows_answer vs w
+        unfolding windows_answer
+        none-holds k =
+            let p = first-none (holds w) vs (sym g ∙ k) in
+            rw (no_edge, no_step, le-ltb n n (omega arith), lt-ltb w week_minutes h, p, gain-beyond vs n (omega arith))

@@ -1,6 +1,6 @@
 -- What a plan answers, said with the card's numbers and without its definition's words: by what holds of all windows, of one, and of those
 -- before it. Assumes nothing.
-use Rattle.std.proofs.Common.{◌≡◌, ℕ, ◌<◌, ◌≤◌, Bool, true, false, cond, not, T, eqb, ltb, ◌⊎◌, List, length, get_or, take, pos, sym, refl, ap, ◌∙◌, subst, inl, inr, le_of_eq, arith, nltb→le, le-ltb, lt-ltb}
+use Rattle.std.proofs.Common.{◌≡◌, ℕ, ◌<◌, ◌≤◌, Bool, true, false, cond, not, T, eqb, ltb, ◌⊎◌, List, length, get_or, take, Result, Ok, Err, pos, sym, refl, ap, ◌∙◌, subst, inl, inr, le_of_eq, arith, nltb→le, le-ltb, lt-ltb}
 use lib.Ieee.{Float, binary32, fits, of_int, le, round}
 use lib.Ieee.Fits.{round-fits, div-fits}
 use Rattle.float.specs.F32.{quotient}
@@ -12,7 +12,8 @@ use Rattle.quiet.specs.Plan.{first_where, gain_at, windows_answer, quiet_gain}
 use Rattle.quiet.specs.Answer.{plan_refusal, gain_of}
 use Rattle.quiet.specs.declared.plan.Window.{Window}
 use Rattle.quiet.specs.declared.plan.Plan.{Plan}
-use Rattle.quiet.specs.declared.answer.PlanAnswer.{PlanAnswer}
+use Rattle.quiet.specs.declared.answer.Gain.{Gain}
+use Rattle.quiet.specs.declared.answer.PlanError.{PlanError}
 use Rattle.quiet.proofs.SearchLaws.{first-is, first-is-none, first-is-some, none_passes}
 use Rattle.quiet.proofs.AnswerLaws.{gain-at, gain-beyond}
 use Rattle.quiet.proofs.WindowLaws.{WrongEdge, RightEdges, wrong-edge, right-edges, wrong-step, right-step, step_right}
@@ -37,13 +38,13 @@ unfolding quiet_gain
 past-count p q w e f = rw (f, e)
 
 -- LAW: 18 for more than 64 windows, whatever they hold and whatever the minute
-pub too_many : (p : Plan) (w : ℕ) → 64 < p.count → quiet_gain p w ≡ PlanAnswer.BadWindow 64
+pub too_many : (p : Plan) (w : ℕ) → 64 < p.count → quiet_gain p w ≡ Err (PlanError.BadWindow 64)
 unfolding quiet_gain
 too_many p w h = rw (lt-ltb max_windows p.count h)
 
 module _ (p : Plan) (w : ℕ) where
-  number : (a : PlanAnswer) → quiet_gain p w ≡ a → number_of p w ≡ (plan_refusal a).number
-  number a e = ap (λ (a : PlanAnswer). (plan_refusal a).number) e
+  number : (a : Result Gain PlanError) → quiet_gain p w ≡ a → number_of p w ≡ (plan_refusal a).number
+  number a e = ap (λ (a : Result Gain PlanError). (plan_refusal a).number) e
 
   abbrev bad_edge : ℕ
   bad_edge = first_where (λ v. not (edges_ok v)) (windows_of p)
@@ -62,17 +63,18 @@ module _ (p : Plan) (w : ℕ) where
     unfolding quiet_gain
     of-few = rw (le-ltb max_windows p.count few)
 
-    edge-first : bad_edge < n → quiet_gain p w ≡ PlanAnswer.BadWindow bad_edge
+    edge-first : bad_edge < n → quiet_gain p w ≡ Err (PlanError.BadWindow bad_edge)
     unfolding windows_answer
     edge-first h = of-few ∙ rw (lt-ltb bad_edge n h)
 
     -- LAW: the first window with an edge above 10,079 is named by 18, whatever else is wrong
     pub edge-named :
-        (i : ℕ) → i < n → WrongEdge (window_at p i) → ((j : ℕ) → j < i → RightEdges (window_at p j)) → quiet_gain p w ≡ PlanAnswer.BadWindow i
+        (i : ℕ) → i < n → WrongEdge (window_at p i) → ((j : ℕ) → j < i → RightEdges (window_at p j))
+        → quiet_gain p w ≡ Err (PlanError.BadWindow i)
     edge-named i h t b =
         let found = first-is (λ v. not (edges_ok v)) blank (windows_of p) i h (ap not (wrong-edge (window_at p i) t))
         (λ j m. ap not (right-edges (window_at p j) (b j m))) in
-        edge-first (rw found h) ∙ ap PlanAnswer.BadWindow found
+        edge-first (rw found h) ∙ ap (λ (k : ℕ). Err (PlanError.BadWindow k)) found
 
   -- LAW: 18 for any edge above 10,079, also of a plan of more than 64 windows
   pub edge-18 : (i : ℕ) → i < n → WrongEdge (window_at p i) → number_of p w ≡ 18
@@ -90,18 +92,18 @@ module _ (p : Plan) (w : ℕ) where
         le_of_eq
         (sym (first-is-none (λ v. not (edges_ok v)) blank (windows_of p) (λ i m. ap not (right-edges (window_at p i) (edges i m)))))
 
-    step-first : bad_step < n → quiet_gain p w ≡ PlanAnswer.BadStep bad_step
+    step-first : bad_step < n → quiet_gain p w ≡ Err (PlanError.BadStep bad_step)
     unfolding windows_answer
     step-first h = of-few few ∙ rw (le-ltb bad_edge n no_edge, lt-ltb bad_step n h)
 
     -- LAW: the first window with a step above 100 is named by 19, whatever the minute
     pub step-named :
         (i : ℕ) → i < n → 100 < (window_at p i).step → ((j : ℕ) → j < i → (window_at p j).step ≤ 100)
-        → quiet_gain p w ≡ PlanAnswer.BadStep i
+        → quiet_gain p w ≡ Err (PlanError.BadStep i)
     step-named i h t b =
         let found = first-is (λ v. not (step_ok v)) blank (windows_of p) i h (ap not (wrong-step (window_at p i) t))
         (λ j m. ap not (right-step (window_at p j) (b j m))) in
-        step-first (rw found h) ∙ ap PlanAnswer.BadStep found
+        step-first (rw found h) ∙ ap (λ (k : ℕ). Err (PlanError.BadStep k)) found
 
     -- LAW: 19 for any step above 100
     pub step-19 : (i : ℕ) → i < n → 100 < (window_at p i).step → number_of p w ≡ 19
@@ -115,7 +117,7 @@ module _ (p : Plan) (w : ℕ) where
           le_of_eq
           (sym (first-is-none (λ v. not (step_ok v)) blank (windows_of p) (λ i m. ap not (right-step (window_at p i) (steps i m)))))
 
-      minute-first : week_minutes ≤ w → quiet_gain p w ≡ PlanAnswer.BadMinute
+      minute-first : week_minutes ≤ w → quiet_gain p w ≡ Err PlanError.BadMinute
       unfolding windows_answer
       minute-first h = of-few few ∙ rw (le-ltb bad_edge n no_edge, le-ltb bad_step n no_step, le-ltb w week_minutes h)
 
@@ -124,25 +126,25 @@ module _ (p : Plan) (w : ℕ) where
       minute-20 h = number _ (minute-first (omega arith))
 
       module _ (h : w ≤ 10079) where
-        gain-first : quiet_gain p w ≡ PlanAnswer.Gain held (gain_at (windows_of p) held)
+        gain-first : quiet_gain p w ≡ Ok (record { window = held; gain = gain_at (windows_of p) held })
         unfolding windows_answer
         gain-first = of-few few ∙ rw (le-ltb bad_edge n no_edge, le-ltb bad_step n no_step, lt-ltb w week_minutes (omega arith))
 
         -- LAW: the first window that holds the minute gives its step divided by 100
         pub first_holds :
             (i : ℕ) → i < n → holds w (window_at p i) ≡ true → ((j : ℕ) → j < i → holds w (window_at p j) ≡ false)
-            → quiet_gain p w ≡ PlanAnswer.Gain i (step_gain (window_at p i).step)
+            → quiet_gain p w ≡ Ok (record { window = i; gain = step_gain (window_at p i).step })
         first_holds i m t b =
             gain-first
-            ∙ (ap (λ (k : ℕ). PlanAnswer.Gain k (gain_at (windows_of p) k)) (first-is (holds w) blank (windows_of p) i m t b)
-            ∙ ap (PlanAnswer.Gain i) (gain-at (windows_of p) i blank m))
+            ∙ (ap (λ (k : ℕ). Ok (record { window = k; gain = gain_at (windows_of p) k })) (first-is (holds w) blank (windows_of p) i m t b)
+            ∙ ap (λ (g : Float). Ok (record { window = i; gain = g })) (gain-at (windows_of p) i blank m))
 
         -- LAW: with no such window the gain is 1, and the answer names as many windows as there are
-        pub none-holds : ((j : ℕ) → j < n → holds w (window_at p j) ≡ false) → quiet_gain p w ≡ PlanAnswer.Gain n (quotient 1 1)
+        pub none-holds : ((j : ℕ) → j < n → holds w (window_at p j) ≡ false) → quiet_gain p w ≡ Ok (record { window = n; gain = quotient 1 1 })
         none-holds b =
             gain-first
-            ∙ (ap (λ (k : ℕ). PlanAnswer.Gain k (gain_at (windows_of p) k)) (first-is-none (holds w) blank (windows_of p) b)
-            ∙ ap (PlanAnswer.Gain n) (gain-beyond (windows_of p) n (omega arith)))
+            ∙ (ap (λ (k : ℕ). Ok (record { window = k; gain = gain_at (windows_of p) k })) (first-is-none (holds w) blank (windows_of p) b)
+            ∙ ap (λ (g : Float). Ok (record { window = n; gain = g })) (gain-beyond (windows_of p) n (omega arith)))
 
 -- ---- the answer's gain
 abbrev pub InRange : Float → Type 0
@@ -157,7 +159,10 @@ module _ (P : Float → Type 0) (one : P (quotient 1 1)) (step : (n : ℕ) → n
   -- by the tests of the definition: e and s say whether an edge or a step is wrong, m whether there is such a minute
   by_tests :
       (e s m : Bool) (i j k : ℕ) (g : Float) → (s ≡ false → P g)
-      → P (gain_of (cond e (PlanAnswer.BadWindow i) (cond s (PlanAnswer.BadStep j) (cond m (PlanAnswer.Gain k g) PlanAnswer.BadMinute))))
+      → P
+      (gain_of
+      (cond e (Err (PlanError.BadWindow i))
+      (cond s (Err (PlanError.BadStep j)) (cond m (Ok (record { window = k; gain = g })) (Err PlanError.BadMinute)))))
   by_tests true s m i j k g h = one
   by_tests false true m i j k g h = one
   by_tests false false true i j k g h = h refl
@@ -183,7 +188,7 @@ module _ (P : Float → Type 0) (one : P (quotient 1 1)) (step : (n : ℕ) → n
   unfolding quiet_gain
   of-plan p w = by_count (ltb max_windows p.count) (windows_answer (windows_of p) w) (of-windows (windows_of p) w)
     where
-      by_count : (b : Bool) (a : PlanAnswer) → P (gain_of a) → P (gain_of (cond b (PlanAnswer.BadWindow max_windows) a))
+      by_count : (b : Bool) (a : Result Gain PlanError) → P (gain_of a) → P (gain_of (cond b (Err (PlanError.BadWindow max_windows)) a))
       by_count true a h = one
       by_count false a h = h
 
@@ -199,27 +204,25 @@ gain-fits p w =
     (λ n h. div-fits binary32 (of_int binary32 (pos n)) (quotient 100 1)) p w
 
 -- LAW: a refusal's is 1, the loudness of a pole without a plan
-pub refused_full : (a : PlanAnswer) → ((plan_refusal a).number ≡ 0 → ⊥) → gain_of a ≡ quotient 1 1
-refused_full (PlanAnswer.Gain i g) n = absurd (n refl)
-refused_full (PlanAnswer.BadWindow i) n = refl
-refused_full (PlanAnswer.BadStep i) n = refl
-refused_full PlanAnswer.BadMinute n = refl
+pub refused_full : (a : Result Gain PlanError) → ((plan_refusal a).number ≡ 0 → ⊥) → gain_of a ≡ quotient 1 1
+refused_full (Ok g) n = absurd (n refl)
+refused_full (Err e) n = refl
 
 -- ---- the answers apart
-abbrev answer_of : Refusal → Float → PlanAnswer
+abbrev answer_of : Refusal → Float → Result Gain PlanError
 answer_of r g =
-    cond (eqb r.number 0) (PlanAnswer.Gain r.first g)
-    (cond (eqb r.number 18) (PlanAnswer.BadWindow r.first)
-    (cond (eqb r.number 19) (PlanAnswer.BadStep r.first) PlanAnswer.BadMinute))
+    cond (eqb r.number 0) (Ok (record { window = r.first; gain = g }))
+    (cond (eqb r.number 18) (Err (PlanError.BadWindow r.first))
+    (cond (eqb r.number 19) (Err (PlanError.BadStep r.first)) (Err PlanError.BadMinute)))
 
-answer_back : (a : PlanAnswer) → answer_of (plan_refusal a) (gain_of a) ≡ a
-answer_back (PlanAnswer.Gain i g) = refl
-answer_back (PlanAnswer.BadWindow i) = refl
-answer_back (PlanAnswer.BadStep i) = refl
-answer_back PlanAnswer.BadMinute = refl
+answer_back : (a : Result Gain PlanError) → answer_of (plan_refusal a) (gain_of a) ≡ a
+answer_back (Ok g) = refl
+answer_back (Err (PlanError.BadWindow i)) = refl
+answer_back (Err (PlanError.BadStep i)) = refl
+answer_back (Err PlanError.BadMinute) = refl
 
 -- LAW: no two answers share number, window and gain
-pub plan-answers-apart : (a b : PlanAnswer) → plan_refusal a ≡ plan_refusal b → gain_of a ≡ gain_of b → a ≡ b
+pub plan-answers-apart : (a b : Result Gain PlanError) → plan_refusal a ≡ plan_refusal b → gain_of a ≡ gain_of b → a ≡ b
 plan-answers-apart a b e f =
     sym (answer_back a)
     ∙ (ap (λ (r : Refusal). answer_of r (gain_of a)) e ∙ (ap (λ (g : Float). answer_of (plan_refusal b) g) f ∙ answer_back b))

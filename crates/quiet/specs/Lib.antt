@@ -2,4 +2,3 @@ pub mod Limits
 pub mod Window
 pub mod Plan
 pub mod Answer
-pub mod inner

@@ -6,10 +6,9 @@ mod answer;
 mod gain;
 mod limits;
 mod plan;
-mod search;
 mod window;
 
-pub use answer::PlanAnswer;
+pub use answer::{Gain, PlanError};
 pub use gain::quiet_gain;
 pub use limits::{FULL_STEP, MAX_WINDOWS, WEEK_MINUTES};
 pub use plan::{Plan, Window};

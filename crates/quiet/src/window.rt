@@ -5,27 +5,32 @@ ghost use Rattle.quiet.specs.Window.{edges_ok, step_ok, holds, step_gain};
 use crate::limits::{FULL_STEP, WEEK_MINUTES};
 use crate::plan::Window;
 
-// Whether both edges are minutes of the week.
-pub fn edges_ok(v: Window) -> bool
-    ensures { result ≡ edges_ok v }
-{
-    v.start < WEEK_MINUTES && v.end < WEEK_MINUTES
-}
-
-pub fn step_ok(v: Window) -> bool
-    ensures { result ≡ step_ok v }
-{
-    v.step <= FULL_STEP
-}
-
-// Whether the window holds the minute.
-pub fn holds_minute(v: Window, minute: u32) -> bool
-    ensures { result ≡ holds minute v }
-{
-    if v.start <= v.end {
-        return v.start <= minute && minute < v.end;
+impl Window {
+    // Whether both edges are minutes of the week.
+    #[tactic(auto, using(std::proofs::lemmas::Bool::Decides::nat_tests), unfolding(crate::specs::Window::edges_ok))]
+    pub(crate) fn edges_ok(self) -> bool
+        ensures { result ≡ edges_ok self }
+    {
+        self.start < WEEK_MINUTES && self.end < WEEK_MINUTES
     }
-    v.start <= minute || minute < v.end
+
+    #[tactic(auto, using(std::proofs::lemmas::Bool::Decides::nat_tests), unfolding(crate::specs::Window::step_ok))]
+    pub(crate) fn step_ok(self) -> bool
+        ensures { result ≡ step_ok self }
+    {
+        self.step <= FULL_STEP
+    }
+
+    // Whether the window holds the minute.
+    #[tactic(auto, using(std::proofs::lemmas::Bool::Decides::nat_tests), unfolding(crate::specs::Window::holds))]
+    pub(crate) fn holds(self, minute: u32) -> bool
+        ensures { result ≡ holds minute self }
+    {
+        if self.start <= self.end {
+            return self.start <= minute && minute < self.end;
+        }
+        self.start <= minute || minute < self.end
+    }
 }
 
 // Hundredths as a gain: one division.

@@ -1,40 +1,68 @@
-use Rattle.std.proofs.Common.{◌≡◌, length, rules}
+-- What each search of the windows finds, in the library's word, and what is answered then.
+use Rattle.std.proofs.Common.{tests, rules, None, not}
 use lib.Ieee.{of_bits, round}
+use Rattle.std.proofs.lemmas.Iterator.{YieldsList-from_slice}
+use Rattle.std.proofs.lemmas.Iterator.Search.{position_from_yields_List}
+use Rattle.quiet.specs.Window.{edges_ok, step_ok, holds}
 use Rattle.quiet.proofs.AnswerLaws.{edge-wrong, step-wrong, minute-wrong, window-holds, none-holds}
 use Rattle.quiet.proofs.gain.windows_gain.Goals as goal
 
-pub returns-then-bad_edge-count : goal.returns-then-bad_edge-count
-returns-then-bad_edge-count c =
-    let a = c.args in
-    let len : length a.windows ≡ 64 = search rules in
-    edge-wrong a.windows a.count a.minute _ 0 0 len c.requires c.first_where-bad_edge.ensures c.if-bad_edge-count.true
+pub returns-in-Some : goal.returns-in-Some
+returns-in-Some c =
+    let vs = c.args.windows.now in
+    edge-wrong vs _ _ None None
+    (position_from_yields_List (λ v. not (edges_ok v)) _ _ _ c.position.ensures.ran (YieldsList-from_slice vs (cc))
+    (λ v b q k. search (rules, tests)))
+    _ c.in-Some.is
 
-pub returns-then-bad_step-count : goal.returns-then-bad_step-count
-returns-then-bad_step-count c =
-    let a = c.args in
-    let len : length a.windows ≡ 64 = search rules in
-    step-wrong a.windows a.count a.minute _ _ 0 len c.requires c.first_where-bad_edge.ensures c.first_where-bad_step.ensures
-    c.if-bad_edge-count.false c.if-bad_step-count.true
+pub returns-in-Some-position : goal.returns-in-Some-position
+returns-in-Some-position c =
+    let vs = c.args.windows.now in
+    step-wrong vs _ _ _ None
+    (position_from_yields_List (λ v. not (edges_ok v)) _ _ _ c.position.ensures.ran (YieldsList-from_slice vs (cc))
+    (λ v b q k. search (rules, tests)))
+    c.in_default.is
+    (position_from_yields_List (λ v. not (step_ok v)) _ _ _ c.position-2.ensures.ran (YieldsList-from_slice vs (cc))
+    (λ v b q k. search (rules, tests)))
+    _ c.in-Some-position.is
 
 pub returns-then-minute-ge-WEEK_MINUTES : goal.returns-then-minute-ge-WEEK_MINUTES
 returns-then-minute-ge-WEEK_MINUTES c =
-    let a = c.args in
-    let len : length a.windows ≡ 64 = search rules in
-    minute-wrong a.windows a.count a.minute _ _ 0 len c.requires c.first_where-bad_edge.ensures c.first_where-bad_step.ensures
-    c.if-bad_edge-count.false c.if-bad_step-count.false c.if-minute-ge-WEEK_MINUTES.true
+    let vs = c.args.windows.now in
+    minute-wrong vs _ _ _ None
+    (position_from_yields_List (λ v. not (edges_ok v)) _ _ _ c.position.ensures.ran (YieldsList-from_slice vs (cc))
+    (λ v b q k. search (rules, tests)))
+    c.in_default.is
+    (position_from_yields_List (λ v. not (step_ok v)) _ _ _ c.position-2.ensures.ran (YieldsList-from_slice vs (cc))
+    (λ v b q k. search (rules, tests)))
+    c.in_default-position.is c.if-minute-ge-WEEK_MINUTES.true
 
-pub returns-then-held-count : goal.returns-then-held-count
-returns-then-held-count c =
-    let a = c.args in
-    let len : length a.windows ≡ 64 = search rules in
-    window-holds a.windows a.count a.minute _ _ _ len c.requires c.first_where-bad_edge.ensures c.first_where-bad_step.ensures
-    c.if-bad_edge-count.false c.if-bad_step-count.false c.if-minute-ge-WEEK_MINUTES.false c.first_where-held.ensures _ _
-    c.if-held-count.true c.step_gain.ensures
+pub returns-in-Some-position-2 : goal.returns-in-Some-position-2
+returns-in-Some-position-2 c =
+    let vs = c.args.windows.now in
+    rw c.step_gain.ensures
+    (window-holds vs c.args.minute _ _ _
+    (position_from_yields_List (λ v. not (edges_ok v)) _ _ _ c.position.ensures.ran (YieldsList-from_slice vs (cc))
+    (λ v b q k. search (rules, tests)))
+    c.in_default.is
+    (position_from_yields_List (λ v. not (step_ok v)) _ _ _ c.position-2.ensures.ran (YieldsList-from_slice vs (cc))
+    (λ v b q k. search (rules, tests)))
+    c.in_default-position.is c.if-minute-ge-WEEK_MINUTES.false
+    (position_from_yields_List (holds c.args.minute) _ _ _ c.position-3.ensures.ran (YieldsList-from_slice vs (cc))
+    (λ v b q k. search (rules, tests)))
+    _ _ c.in-Some-position-2.is)
 
-pub returns : goal.returns
+pub returns-in-None : goal.returns-in-None
 unfolding of_bits round
-returns c =
-    let a = c.args in
-    let len : length a.windows ≡ 64 = search rules in
-    none-holds a.windows a.count a.minute _ _ _ len c.requires c.first_where-bad_edge.ensures c.first_where-bad_step.ensures
-    c.if-bad_edge-count.false c.if-bad_step-count.false c.if-minute-ge-WEEK_MINUTES.false c.first_where-held.ensures c.if-held-count.false
+returns-in-None c =
+    let vs = c.args.windows.now in
+    none-holds vs c.args.minute _ _ _
+    (position_from_yields_List (λ v. not (edges_ok v)) _ _ _ c.position.ensures.ran (YieldsList-from_slice vs (cc))
+    (λ v b q k. search (rules, tests)))
+    c.in_default.is
+    (position_from_yields_List (λ v. not (step_ok v)) _ _ _ c.position-2.ensures.ran (YieldsList-from_slice vs (cc))
+    (λ v b q k. search (rules, tests)))
+    c.in_default-position.is c.if-minute-ge-WEEK_MINUTES.false
+    (position_from_yields_List (holds c.args.minute) _ _ _ c.position-3.ensures.ran (YieldsList-from_slice vs (cc))
+    (λ v b q k. search (rules, tests)))
+    c.in-None.is
