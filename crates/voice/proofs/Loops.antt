@@ -9,6 +9,7 @@ use native.Mathlib.Nat.{add-zero, add-suc, suc-add, zero-add, suc-mul, one-mul, 
 use native.Mathlib.Omega.{arith}
 use lib.ListN.{length, take, drop, get_or, set, length-append, drop_of_length-le, get_or-append, take-append-drop, replicate}
 use lib.Seq.{split_at, length-take-le, drop-cons, set_at, take_at, drop_at, drop-drop, get_or_at, ext_get_or, drop-append-le}
+use Rattle.std.proofs.lemmas.List.{get_or-take}
 use Rattle.voice.specs.Lists.{map_to, up_to, steps, join_to, every, padded}
 use Rattle.voice.specs.Input.{input_ok}
 use borrow.Author.Tests.{eqb-true}
@@ -92,6 +93,22 @@ module _ (test : ℕ → Bool) where
 
   pub every-last : (ok : Bool) (i n : ℕ) → i ≡ n → ok ≡ every test i → ok ≡ every test n
   every-last ok i n q e = rw (e, q)
+
+-- tests that answer alike
+every-same : (t u : ℕ → Bool) (n : ℕ) → ((i : ℕ) → i < n → t i ≡ u i) → every t n ≡ every u n
+unfolding steps
+every-same t u zero h = refl
+every-same t u (suc n) h = rw (every-same t u n (λ i l. h i (omega arith)), h n (omega arith))
+
+-- of the first n items of a list: each, and each with the next
+module _ {A : Type 0} (d : A) (xs : List A) (n : ℕ) (l : n ≤ length xs) where
+  pub every-front : (p : A → Bool) → every (λ i. p (get_or (take n xs) i d)) (length (take n xs)) ≡ every (λ i. p (get_or xs i d)) n
+  every-front p = rw (length-take-le n xs l) (every-same _ _ n (λ i h. ap p (get_or-take n xs i d h)))
+
+  pub every-pair : (p : A → A → Bool) → every (λ i. p (get_or (take n xs) i d) (get_or (take n xs) (i + 1) d)) (length (take n xs) - 1) ≡ every (λ i. p (get_or xs i d) (get_or xs (i + 1) d)) (n - 1)
+  every-pair p =
+      rw (length-take-le n xs l)
+      (every-same _ _ (n - 1) (λ i h. rw (get_or-take n xs i d (omega arith), get_or-take n xs (i + 1) d (omega arith))))
 
 -- ---- rows
 -- row a of k rows of n, element i

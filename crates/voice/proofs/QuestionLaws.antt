@@ -1,17 +1,15 @@
 -- What an answer yes to a question says.
 use mathlib.Core.Path.{◌≡◌, refl}
 use mathlib.Core.Bool.{Bool, true, false, ◌&&◌}
-use Prim.Native.Nat.{ℕ, zero, suc, ◌*◌, ◌≤◌}
+use Prim.Native.Nat.{ℕ, suc, ◌*◌, ◌≤◌}
 use native.Mathlib.Omega.{arith}
 use borrow.Author.Tests.{leb-true, eqb-true}
 use lib.Dec.{leb, eqb}
-use lib.Ieee.{Float}
 use Rattle.voice.specs.Input.{Call, input_ok, inputs_of, inputs_ok, frequencies_ok}
 use Rattle.voice.specs.Voice.{counts_ok, entries_ok, rate_ok, live_ok, centres_finite, phases_ok, rules_of, keeps_rules}
-use Rattle.voice.specs.Question.{ask, block_ok, call_question, play_question, accepted}
+use Rattle.voice.specs.Question.{ask, block_ok, call_question, play_question}
 use Rattle.voice.specs.declared.shape.Shape.{Shape}
 use Rattle.voice.specs.declared.voice.Voice.{Voice}
-use mathlib.Core.List.{List}
 use Rattle.voice.proofs.Loops.{both_true}
 
 pub counts-are : (a b c d e : ℕ) → leb a 16 && (leb b 32 && (leb c 16 && (leb d 4 && leb e 16))) ≡ true → (a ≤ 16) × (b ≤ 32) × (c ≤ 16) × (d ≤ 4) × (e ≤ 16)
@@ -84,11 +82,6 @@ unfolding play_question
 play-accepted v c len h =
     let p = ask-yes _ 12 _ h in
     (p.0, call-accepted c len p.1)
-
--- a refusal leaves what was given
-pub refused-out : (q : ℕ) (old new : List Float) → (q ≡ 0 → ⊥) → old ≡ accepted q new old
-refused-out zero old new h = absurd (h refl)
-refused-out (suc q) old new h = refl
 
 -- LAW: what a voice that keeps the rules has
 pub record KeptRules (v : Voice) : Type 0 where

@@ -1,4 +1,4 @@
--- A retune of a voice by its parts: the numbers and the short lists that it comes to, stored, are the voice that it comes to. Assumes nothing.
+-- Laws of a retune: its questions, and what it leaves. Assumes nothing.
 use Prim.Native.Nat.{ℕ, zero, suc, ◌+◌, ◌*◌, ◌≤◌, ◌<◌}
 use mathlib.Core.Path.{◌≡◌, refl, ap, sym, ◌∙◌}
 use mathlib.Core.List.{List, ◌++◌}
@@ -10,27 +10,12 @@ use lib.Seq.{length-take-le, drop-drop}
 use lib.Ieee.{Float, nan}
 use Rattle.voice.specs.Bands.{init_floats, init_lists}
 use Rattle.voice.specs.Question.{ask, accepted}
-use Rattle.voice.specs.Retuning.{with_rate, retuned, rate_question, retune_of, retuned_parts}
-use Rattle.voice.specs.Voice.{list_at, counts_ok, entries_ok, rate_ok, live_ok, centres_finite, rules_of, keeps_rules, voice_of}
-use Rattle.voice.specs.declared.answer.Played.{Played}
-use Rattle.voice.specs.declared.answer.Retuned.{Retuned}
+use Rattle.voice.specs.Retuning.{retuned, rate_question, retune_of}
+use Rattle.voice.specs.Voice.{list_at, counts_ok, entries_ok, rate_ok, live_ok, centres_finite, rules_of, keeps_rules}
 use Rattle.voice.specs.declared.voice.Voice.{Voice}
 use Rattle.voice.proofs.Loops.{up_to-as}
 use Rattle.voice.proofs.InitLaws.{length-init, centres-at, init-of}
 use Rattle.voice.proofs.QuestionLaws.{kept}
-
--- by the question's number
-parts-accepted : (q : ℕ) (v : Voice) (rate : Float)
-    → voice_of (accepted q (with_rate v.set rate) v.set) (accepted q (init_lists v.lists v.set.j rate) v.lists) v.partials v.noise v.state
-    ≡ accepted q (retuned v rate) v
-parts-accepted zero v rate = refl
-parts-accepted (suc q) v rate = refl
-
--- LAW
-pub retunes-parts : (v : Voice) (rate : Float) (r : Retuned) → r ≡ retuned_parts v.set v.lists v.state rate
-    → ◌≡◌ {A = Played} (record { number = r.number; voice = voice_of r.set r.lists v.partials v.noise v.state }) (retune_of v rate)
-unfolding retuned_parts retune_of
-retunes-parts v rate r e = rw (e, parts-accepted (ask (keeps_rules v) 13 (rate_question rate)) v rate)
 
 -- LAW: a refusal's number is 13 or 11
 numbered : (k r : Bool) (q : ℕ) → q ≡ ask k 13 (ask r 11 0) → (q ≡ 0 → ⊥) → (q ≡ 13) ⊎ (q ≡ 11)

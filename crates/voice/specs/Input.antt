@@ -6,6 +6,7 @@ use Rattle.std.specs.Float.Ieee.Scale.{finite}
 use Rattle.float.specs.F32.{quotient}
 use Rattle.voice.specs.Lists.{every}
 use Rattle.voice.specs.Limits.{max_channels, max_hz}
+use Rattle.voice.specs.declared.inputs.Inputs.{Inputs}
 use Rattle.voice.specs.declared.shape.Shape.{Shape}
 
 -- all that a play is handed but the voice and the output: the block's numbers, and the slices of the frequency and of the four gains
@@ -19,6 +20,10 @@ pub record Call : Type 0 where
 
 abbrev pub call : Shape → List Float → List Float → List Float → List Float → List Float → Call
 call b freq g0 g1 g2 g3 = record { shape = b; freq = freq; g0 = g0; g1 = g1; g2 = g2; g3 = g3 }
+
+-- the same of the five slices together, as they are lent
+abbrev pub call_of : Shape → Inputs → Call
+call_of b inputs = call b inputs.freq.now inputs.g0.now inputs.g1.now inputs.g2.now inputs.g3.now
 
 -- the part of an input of k channels that output channel ch of n samples reads: input channel ch modulo k, or nothing where it is
 -- unconnected

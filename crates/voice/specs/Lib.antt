@@ -3,6 +3,7 @@ pub mod Limits
 pub mod Voice
 pub mod Input
 pub mod Question
+pub mod Answer
 pub mod Restart
 pub mod Bands
 pub mod Retuning

@@ -1,11 +1,9 @@
 -- Reset and reseed, with question 13. A refusal returns the voice as given.
-use Rattle.std.specs.Prelude.{ℕ, List, Float}
+use Rattle.std.specs.Prelude.{ℕ}
 use Rattle.filters.specs.Rng.{new_rng}
 use Rattle.voice.specs.Question.{ask, accepted}
-use Rattle.voice.specs.Voice.{rules_of, keeps_rules, with_state, state_of, first_state, no_memories}
+use Rattle.voice.specs.Voice.{keeps_rules, with_state, state_of, first_state, no_memories}
 use Rattle.voice.specs.declared.answer.Played.{Played}
-use Rattle.voice.specs.declared.answer.Restarted.{Restarted}
-use Rattle.voice.specs.declared.voice.Setting.{Setting}
 use Rattle.voice.specs.declared.voice.State.{State}
 use Rattle.voice.specs.declared.voice.Voice.{Voice}
 
@@ -23,9 +21,3 @@ unfoldable pub reseed_of : Voice → ℕ → Played
 reseed_of v seed =
     let q = ask (keeps_rules v) 13 0 in
     record { number = q; voice = accepted q (with_state v (reseeded_state v.state seed)) v }
-
--- of the running state alone: question 13 of a voice with these numbers, short lists and phases, and the state that follows, or as given
-unfoldable pub restarted : Setting → List Float → State → State → Restarted
-restarted set lists state after =
-    let q = ask (rules_of set lists state.phases) 13 0 in
-    record { number = q; state = accepted q after state }

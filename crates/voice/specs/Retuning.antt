@@ -1,12 +1,10 @@
 -- Retune: another sample rate for a voice that goes on, with questions 13 and 11. A refusal returns the voice as given.
-use Rattle.std.specs.Prelude.{ℕ, List, Float}
+use Rattle.std.specs.Prelude.{ℕ, Float}
 use Rattle.voice.specs.Bands.{init_lists}
 use Rattle.voice.specs.Question.{ask, accepted}
-use Rattle.voice.specs.Voice.{rate_ok, rules_of, keeps_rules, voice_of}
+use Rattle.voice.specs.Voice.{rate_ok, keeps_rules, voice_of}
 use Rattle.voice.specs.declared.answer.Played.{Played}
-use Rattle.voice.specs.declared.answer.Retuned.{Retuned}
 use Rattle.voice.specs.declared.voice.Setting.{Setting}
-use Rattle.voice.specs.declared.voice.State.{State}
 use Rattle.voice.specs.declared.voice.Voice.{Voice}
 
 -- a voice's numbers with another sample rate
@@ -35,10 +33,3 @@ unfoldable pub retune_of : Voice → Float → Played
 retune_of v rate =
     let q = ask (keeps_rules v) 13 (rate_question rate) in
     record { number = q; voice = accepted q (retuned v rate) v }
-
--- of what of a voice it changes: questions 13 and 11 of a voice with these numbers, short lists and running state, and the numbers and
--- lists that follow, or as given
-unfoldable pub retuned_parts : Setting → List Float → State → Float → Retuned
-retuned_parts set lists state rate =
-    let q = ask (rules_of set lists state.phases) 13 (rate_question rate) in
-    record { number = q; set = accepted q (with_rate set rate) set; lists = accepted q (init_lists lists set.j rate) lists }

@@ -24,13 +24,10 @@ fn init_bands(centres: [f32; 16], n: usize, sample_rate: f32) -> Bands
     let zero = zero_coeffs();
     let mut coeffs = [zero; 16];
     let mut compensation = [0.0; 16];
-    let mut i = 0;
-    while i < n {
+    for i in 0..n {
         let band = init_band(centres[i], sample_rate);
-        let c = band.coeffs;
-        coeffs[i] = c;
+        coeffs[i] = band.coeffs;
         compensation[i] = band.compensation;
-        i += 1;
     }
     Bands {
         coeffs,
@@ -42,25 +39,11 @@ fn init_bands(centres: [f32; 16], n: usize, sample_rate: f32) -> Bands
 fn put_bands(mut lists: [f32; LISTS_PLACES], bands: [BiquadCoeffs; 16]) -> [f32; LISTS_PLACES]
     ensures { result ≡ take bands_at lists ++ (band_floats bands ++ drop (compensations_list * list_places) lists) }
 {
-    let mut b = 0;
-    while b < 16 {
-        let c = bands[b];
+    for (b, c) in bands.iter().enumerate() {
         let at = BANDS_AT + b * 5;
-        lists[at] = c.b0;
-        lists[at + 1] = c.b1;
-        lists[at + 2] = c.b2;
-        lists[at + 3] = c.a1;
-        lists[at + 4] = c.a2;
-        b += 1;
+        lists[at..at + 5].copy_from_slice(&[c.b0, c.b1, c.b2, c.a1, c.a2]);
     }
     lists
-}
-
-// A list has no more than 16 places.
-fn in_list(j: usize) -> usize
-    ensures { result ≡ min j max_bands }
-{
-    if j <= MAX_BANDS { j } else { MAX_BANDS }
 }
 
 // The bands and the compensations of the first j centres of the voice with these lists, put among them.
@@ -68,8 +51,7 @@ pub fn init(lists: [f32; LISTS_PLACES], j: usize, sample_rate: f32) -> [f32; LIS
     ensures { result ≡ init_lists lists j sample_rate }
 {
     let centres = list_of(&lists, CENTRES);
-    let bands = init_bands(centres, in_list(j), sample_rate);
-    let coeffs = bands.coeffs;
-    let compensation = bands.compensation;
-    put_list(put_bands(lists, coeffs), COMPENSATIONS, compensation)
+    let bands = init_bands(centres, j.min(MAX_BANDS), sample_rate);
+    let with_bands = put_bands(lists, bands.coeffs);
+    put_list(with_bands, COMPENSATIONS, bands.compensation)
 }

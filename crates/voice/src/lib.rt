@@ -3,6 +3,7 @@
 
 mod answer;
 mod bands;
+mod inputs;
 mod limits;
 mod lists;
 mod question;
@@ -12,9 +13,10 @@ mod rules;
 mod shape;
 mod voice;
 
-pub use answer::{Played, Restarted, Retuned};
+pub use answer::{CallError, Played};
 pub use bands::init;
-pub use filters::{BiquadCoeffs, Rng};
+pub use filters::{BiquadCoeffs, Rng, rate_ok};
+pub use inputs::Inputs;
 pub use limits::{
     MAX_BANDS, MAX_BLENDED, MAX_CHANNELS, MAX_ENTRIES, MAX_HZ, MAX_PARTIALS, MAX_SAMPLES,
 };
@@ -23,8 +25,7 @@ pub use lists::{
     STRETCHES, band_of, list_of, put_list,
 };
 pub use question::play_question;
-pub use restart::{first_state, reseed, reseed_state, reset, reset_state};
-pub use retuning::{retune, retune_parts};
-pub use rules::{pitch_ok, rate_ok, stretch_ok};
+pub use restart::first_state;
+pub use rules::{pitch_ok, stretch_ok};
 pub use shape::Shape;
 pub use voice::{Setting, State, Voice};

@@ -1,5 +1,6 @@
 // The short lists of a voice: 16 places each, one after the other in one array.
-ghost use Rattle.std.specs.Prelude.{◌≡◌, length};
+ghost use Rattle.std.specs.Prelude.{◌≡◌, ◌<◌, length};
+ghost use Rattle.voice.specs.Limits.{list_places, short_lists};
 ghost use Rattle.voice.specs.Voice.{list_at, with_list};
 
 // How many there are, and the places of all of them.
@@ -23,21 +24,23 @@ pub const CENTRES: usize = 10;
 // Where the first band's coefficients stand. Those of the bands, five a band, take the places of lists 4 to 8.
 pub const BANDS_AT: usize = 64;
 
+// List n where it lies.
+pub(crate) fn short_list(lists: &[f32; LISTS_PLACES], n: usize) -> &[f32]
+    requires { n < short_lists }
+    ensures list { result.now ≡ list_at lists.now n }
+    ensures long { length result.now ≡ list_places }
+{
+    let from = n * 16;
+    &lists[from..from + 16]
+}
+
 // List n by itself; where there is none, no number in any place.
 pub fn list_of(lists: &[f32; LISTS_PLACES], n: usize) -> [f32; 16]
     ensures { result ≡ list_at lists.now n }
 {
-    let s = &lists[..];
-    if SHORT_LISTS <= n {
-        return [0.0 / 0.0; 16];
-    }
-    let mut list: [f32; 16] = [0.0; 16];
-    let from = n * 16;
-    let mut i = 0;
-    while i < 16 {
-        let at = from + i;
-        list[i] = s[at];
-        i += 1;
+    let mut list = [f32::NAN; 16];
+    if n < SHORT_LISTS {
+        list.copy_from_slice(short_list(lists, n));
     }
     list
 }
@@ -47,14 +50,9 @@ pub fn list_of(lists: &[f32; LISTS_PLACES], n: usize) -> [f32; 16]
 pub fn put_list(mut lists: [f32; LISTS_PLACES], n: usize, list: [f32; 16]) -> [f32; LISTS_PLACES]
     ensures { (result ≡ with_list lists n list) × (length list ≡ 16) }
 {
-    if SHORT_LISTS <= n {
-        return lists;
-    }
-    let from = n * 16;
-    let mut i = 0;
-    while i < 16 {
-        lists[from + i] = list[i];
-        i += 1;
+    if n < SHORT_LISTS {
+        let from = n * 16;
+        lists[from..from + 16].copy_from_slice(&list);
     }
     lists
 }
@@ -63,5 +61,5 @@ pub fn put_list(mut lists: [f32; LISTS_PLACES], n: usize, list: [f32; 16]) -> [f
 pub fn band_of(live: u8) -> usize
     ensures { result ≡ live }
 {
-    live as usize
+    usize::from(live)
 }

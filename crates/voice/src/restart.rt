@@ -1,12 +1,13 @@
 // Reset and reseed, with question 13.
 ghost use Rattle.std.specs.Prelude.{◌≡◌};
-ghost use Rattle.voice.specs.Restart.{reset_of, reseed_of, reseeded_state, restarted};
-ghost use Rattle.voice.specs.Voice.{first_state};
+ghost use Rattle.voice.specs.Answer.{call_number};
+ghost use Rattle.voice.specs.Question.{ask, accepted};
+ghost use Rattle.voice.specs.Restart.{reset_of, reseed_of, reseeded_state};
+ghost use Rattle.voice.specs.Voice.{first_state, keeps_rules, with_state};
+ghost use Rattle.voice.specs.declared.answer.Played.{Played};
 
-use crate::answer::{Played, Restarted};
-use crate::lists::LISTS_PLACES;
-use crate::rules::{keeps_rules, rules_of};
-use crate::voice::{Setting, State, Voice};
+use crate::answer::CallError;
+use crate::voice::{State, Voice};
 use filters::Rng;
 
 // Phases and memories 0, and the default seed.
@@ -32,54 +33,33 @@ fn reseeded(state: State, seed: u32) -> State
     }
 }
 
-// The state that a fresh voice has.
-pub fn reset(mut voice: Voice) -> Played
-    ensures { result ≡ reset_of voice }
-{
-    if !keeps_rules(voice) {
-        return Played { number: 13, voice };
+impl Voice {
+    // Another running state, after question 13. Where that is answered no, the voice stays as it is.
+    #[tactic(auto, unfolding(crate::specs::Question::ask))]
+    fn restart(&mut self, after: State) -> Result<(), CallError>
+        ensures number { call_number result ≡ ask (keeps_rules self.old) 13 0 }
+        ensures voice { self.new ≡ accepted (ask (keeps_rules self.old) 13 0) (with_state self.old after) self.old }
+    {
+        if !self.keeps_rules() {
+            return Err(CallError::VoiceRules);
+        }
+        self.state = after;
+        Ok(())
     }
-    let state = first_state();
-    voice.state = state;
-    Played { number: 0, voice }
-}
 
-// The noise starts anew from the seed. The phases go on.
-pub fn reseed(mut voice: Voice, seed: u32) -> Played
-    ensures { result ≡ reseed_of voice seed }
-{
-    if !keeps_rules(voice) {
-        return Played { number: 13, voice };
+    // The state that a fresh voice has.
+    #[tactic(auto, unfolding(crate::specs::Restart::reset_of))]
+    pub fn reset(&mut self) -> Result<(), CallError>
+        ensures { record { number = call_number result; voice = self.new } ≡ reset_of self.old }
+    {
+        self.restart(first_state())
     }
-    let old = voice.state;
-    let state = reseeded(old, seed);
-    voice.state = state;
-    Played { number: 0, voice }
-}
 
-// Of a voice whose numbers, short lists and running state are handed in by themselves: 0 and the state after, where question 13 is answered
-// yes; else 13 and the state as given.
-fn restart(set: Setting, lists: [f32; LISTS_PLACES], state: State, after: State) -> Restarted
-    ensures { result ≡ restarted set lists state after }
-{
-    if !rules_of(set, &lists, &state.phases) {
-        return Restarted { number: 13, state };
+    // The noise starts anew from the seed. The phases go on.
+    #[tactic(auto, unfolding(crate::specs::Restart::reseed_of))]
+    pub fn reseed(&mut self, seed: u32) -> Result<(), CallError>
+        ensures { record { number = call_number result; voice = self.new } ≡ reseed_of self.old seed }
+    {
+        self.restart(reseeded(self.state, seed))
     }
-    Restarted {
-        number: 0,
-        state: after,
-    }
-}
-
-// Reset and reseed of such a voice: what they come to where a voice lies.
-pub fn reset_state(set: Setting, lists: [f32; LISTS_PLACES], state: State) -> Restarted
-    ensures { result ≡ restarted set lists state first_state }
-{
-    restart(set, lists, state, first_state())
-}
-
-pub fn reseed_state(set: Setting, lists: [f32; LISTS_PLACES], state: State, seed: u32) -> Restarted
-    ensures { result ≡ restarted set lists state (reseeded_state state seed) }
-{
-    restart(set, lists, state, reseeded(state, seed))
 }

@@ -11,7 +11,7 @@ pub struct State {
     pub rng: Rng,
 }
 
-// A voice's numbers.
+// A voice's numbers. It crosses to C: so the kind is a number, and the live bands are an array with their count beside it.
 #[repr(C)]
 #[derive(Clone, Copy)]
 pub struct Setting {
@@ -26,6 +26,7 @@ pub struct Setting {
     pub live: [u8; 16],
 }
 
+// It crosses to C, and nothing is allocated: so the lists are arrays, and `set` says how far each is in use.
 // Places that are not in use are 0 in a fresh voice. A play leaves them as given; a reset writes all of the state, a reseed
 // all memories and the noise number, a retune all bands and compensations.
 #[repr(C)]

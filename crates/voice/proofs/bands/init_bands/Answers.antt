@@ -11,19 +11,18 @@ use Rattle.voice.proofs.bands.init_bands.Goals as goal
 
 pub loop-i-init : goal.loop-i-init
 unfolding of_bits round
-loop-i-init c = (omega arith, rw c.zero_coeffs-zero.ensures refl, refl)
+loop-i-init c = (rw c.zero_coeffs-zero.ensures refl, refl)
 
 pub loop-i-preserved : goal.loop-i-preserved
 loop-i-preserved c =
     let rate = c.args.sample_rate in (
-      omega arith,
       rw (ap (λ (b : Band). b.coeffs) c.init_band-band.ensures)
-          (pad-again (λ (c : Float). (band_from c rate).coeffs) zero_coeffs nan 16 c.loop-i.i c.args.centres c.loop-i.coeffs (search rules) (omega (arith, c.requires)) c.loop-i.invariant.1),
+          (pad-again (λ (c : Float). (band_from c rate).coeffs) zero_coeffs nan 16 c.loop-i.i c.args.centres c.loop-i.coeffs (search rules) (omega (arith, c.requires)) c.loop-i.invariant.0),
       rw (ap (λ (b : Band). b.compensation) c.init_band-band.ensures)
-          (pad-again (λ (c : Float). (band_from c rate).compensation) (quotient 0 1) nan 16 c.loop-i.i c.args.centres c.loop-i.compensation (search rules) (omega (arith, c.requires)) c.loop-i.invariant.2),
+          (pad-again (λ (c : Float). (band_from c rate).compensation) (quotient 0 1) nan 16 c.loop-i.i c.args.centres c.loop-i.compensation (search rules) (omega (arith, c.requires)) c.loop-i.invariant.1),
     )
 
 pub returns : goal.returns
 returns c =
     let q : c.loop-i.i ≡ c.args.n = omega arith in
-    rw (c.loop-i.invariant.1, c.loop-i.invariant.2, q) refl
+    rw (c.loop-i.invariant.0, c.loop-i.invariant.1, q) refl

@@ -1,14 +1,14 @@
 -- `centres_finite` meets its contract.
-use native.Mathlib.Omega.{arith}
-use Rattle.voice.proofs.Loops.{every_first, every-again, every-last}
+use Rattle.std.proofs.Common.{◌∙◌, arith, rules}
+use lib.Ieee.{nan}
+use lib.Ieee.Scale.{finite}
+use Rattle.voice.specs.Voice.{centres_finite}
+use Rattle.voice.proofs.Loops.{every-front}
 use Rattle.voice.proofs.rules.centres_finite.Goals as goal
 
-pub loop-i-init : goal.loop-i-init
-loop-i-init c = (omega arith, every_first _)
-
-pub loop-i-preserved : goal.loop-i-preserved
-loop-i-preserved c =
-    (omega arith, every-again _ _ _ _ c.loop-i.i c.loop-i.invariant.1 c.is_finite.ensures c.both-ok.ensures)
-
 pub returns : goal.returns
-returns c = every-last _ _ _ _ (omega arith) c.loop-i.invariant.1
+unfolding centres_finite
+returns c =
+    c.all_of.ensures finite nan (λ i r l h. search rules)
+    ∙ every-front nan c.short_list.result.now c.args.j (omega (arith, c.short_list.ensures.long)) finite
+    ∙ rw c.short_list.ensures.list

@@ -2,7 +2,10 @@
 use lib.Ieee.{of_bits, round}
 use Rattle.voice.proofs.rules.phase_ok.Goals as goal
 
-pub returns : goal.returns
+pub returns-then-p : goal.returns-then-p
 unfolding of_bits round
-returns c =
-    c.both.ensures
+returns-then-p c = rw c.if-p.true
+
+pub returns-else-p : goal.returns-else-p
+unfolding of_bits round
+returns-else-p c = rw c.if-p.false

@@ -1,16 +1,11 @@
 -- `phases_ok` meets its contract.
-use native.Mathlib.Omega.{arith}
-use Rattle.voice.specs.Voice.{phases_ok}
-use Rattle.voice.proofs.Loops.{every_first, every-again, every-last}
+use Rattle.std.proofs.Common.{◌∙◌, arith}
+use lib.Ieee.{nan}
+use Rattle.voice.specs.Voice.{phase_ok, phases_ok}
+use Rattle.voice.proofs.Loops.{every-front}
 use Rattle.voice.proofs.rules.phases_ok.Goals as goal
-
-pub loop-i-init : goal.loop-i-init
-loop-i-init c = (omega arith, every_first _)
-
-pub loop-i-preserved : goal.loop-i-preserved
-loop-i-preserved c =
-    (omega arith, every-again _ _ _ _ c.loop-i.i c.loop-i.invariant.1 c.phase_ok.ensures c.both-ok.ensures)
 
 pub returns : goal.returns
 unfolding phases_ok
-returns c = every-last _ _ _ _ (omega arith) c.loop-i.invariant.1
+returns c =
+    c.all_of.ensures phase_ok nan (λ i r l h. h) ∙ every-front nan c.args.phases.now c.args.m (omega (arith, c.told-phases)) phase_ok

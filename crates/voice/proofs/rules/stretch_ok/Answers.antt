@@ -2,7 +2,10 @@
 use lib.Ieee.{of_bits, round}
 use Rattle.voice.proofs.rules.stretch_ok.Goals as goal
 
-pub returns : goal.returns
+pub returns-then-s : goal.returns-then-s
 unfolding of_bits round
-returns c =
-    c.both.ensures
+returns-then-s c = rw c.if-s.true
+
+pub returns-else-s : goal.returns-else-s
+unfolding of_bits round
+returns-else-s c = rw c.if-s.false
