@@ -1,4 +1,5 @@
 pub mod ViewLaws
+pub mod RangeLaws
 pub mod MakeLists
 pub mod ListLaws
 pub mod CoeffLaws

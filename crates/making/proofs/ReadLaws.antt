@@ -4,21 +4,21 @@ use mathlib.Core.Path.{◌≡◌, refl, ap, sym, ◌∙◌}
 use mathlib.Core.List.{List, []}
 use mathlib.Core.Bool.{false}
 use native.Mathlib.Omega.{arith}
-use lib.ListN.{length}
+use lib.ListN.{length, take}
 use lib.Dec.{eqb}
 use lib.Ieee.{Float}
 use borrow.Author.Tests.{lt-leb}
+use Rattle.std.specs.Prelude.{Ok, Err}
 use Rattle.wire.specs.Parse.{refusal, ok, refused}
 use Rattle.table.specs.declared.desk.Kind.{Kind}
-use Rattle.table.specs.declared.read.Reading.{Reading}
 use Rattle.table.specs.declared.entry.EntryView.{EntryView}
 use Rattle.table.specs.declared.views.Views.{Views}
 use Rattle.table.specs.declared.error.CoeffTableCodecError.{CoeffTableCodecError}
 use Rattle.table.specs.Table.{PitchEntry, CoeffTable}
-use Rattle.table.specs.Answer.{refusal_of, reading_parsed}
+use Rattle.table.specs.Answer.{refusal_of}
 use Rattle.table.specs.Decode.{decode}
 use Rattle.table.specs.Views.{ViewsRead}
-use Rattle.table.specs.inner.KeptViews.{viewed}
+use Rattle.making.specs.inner.Views.{viewed}
 use Rattle.table.proofs.ReadLaws.{accepted-table, refused-is}
 use Rattle.table.proofs.ViewsLaws.{views-lead}
 use Rattle.voice.specs.Question as question
@@ -26,13 +26,15 @@ use Rattle.making.specs.Making.{Making, limits_ok, table_question, make_of, make
 use Rattle.making.proofs.CoeffLaws.{refused-number}
 
 -- an image that is read: its table, and its entries as the views have them
-pub table-read : {G : Type 0} (s : List ℕ) (r : Views) (n e : ℕ) → ViewsRead s r → r.reading ≡ Reading.Accepted n e
-    → ((t : CoeffTable) → decode s ≡ ok t e → length t.entries ≡ n → (n ≤ 16 → viewed s r.views n ≡ t.entries) → G) → G
-table-read s r n e v q k = accepted-table s n e (sym v.reading ∙ ap reading_parsed q) λ t p l.
-    k t p l λ h. ap (λ (views : List EntryView). viewed s views n) v.views ∙ views-lead s t e n p l h
+pub table-read : {G : Type 0} (s : List ℕ) (v : Views) → ViewsRead s (Ok v)
+    → ((t : CoeffTable) → decode s ≡ ok t v.counts.end → length t.entries ≡ v.counts.entries → (v.counts.entries ≤ 16 → viewed s (take v.counts.entries v.views) ≡ t.entries) → G) → G
+table-read s v r k =
+    let n = v.counts.entries in
+    accepted-table s n v.counts.end (sym r.reading) λ t p l.
+    k t p l λ h. ap (λ (views : List EntryView). viewed s (take n views)) r.views ∙ views-lead s t v.counts.end n p l h
 
-pub table-refused : (s : List ℕ) (r : Views) (e : CoeffTableCodecError) → ViewsRead s r → r.reading ≡ Reading.Refused e → decode s ≡ refused (refusal_of e)
-table-refused s r e v q = refused-is s (refusal_of e) (sym v.reading ∙ ap reading_parsed q)
+pub table-refused : (s : List ℕ) (e : CoeffTableCodecError) → ViewsRead s (Err e) → decode s ≡ refused (refusal_of e)
+table-refused s e r = refused-is s (refusal_of e) (sym r.reading)
 
 -- more than 16 entries
 pub too_many : (k : Kind) (es : List PitchEntry) (rate : Float) (centres : List Float) → 16 < length es → table_question k es rate centres ≡ refusal 8 0 0

@@ -2,4 +2,3 @@
 pub mod Views
 pub mod Live
 pub mod Columns
-pub mod Made

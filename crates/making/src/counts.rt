@@ -1,73 +1,24 @@
 // How many bands, channels and phases a voice has.
-ghost use Rattle.std.specs.Prelude.{◌≡◌, ℕ, ◌≤◌, List};
+ghost use Rattle.std.specs.Prelude.{◌≡◌, ◌≤◌};
 ghost use Rattle.table.specs.View.{entry_at};
 ghost use Rattle.table.specs.Desk.{band_count};
 ghost use Rattle.making.specs.Making.{most_channels, channel_count, partial_reach, reach_in, phases_for, phase_count};
-ghost use Rattle.making.specs.inner.Views.{viewed};
-ghost use Rattle.voice.specs.Limits.{max_entries, max_blended};
+ghost use Rattle.making.specs.inner.Views.{entries_in};
 
 use crate::coeffs::partial_coeff;
-use table::desk::{Kind, bands_of, larger};
+use crate::entries::Entries;
+use table::desk::{Kind, bands_of};
 use table::entry::{EntryView, has_channel};
+use voice::MAX_BLENDED;
 
-const MAX_BLENDED: u32 = 4;
-
-// The largest band count that an entry gives the voice.
-pub fn band_count(views: [EntryView; 16], count: usize, kind: Kind) -> u32
-    requires { count ≤ max_entries }
-    ensures { (s : List ℕ) → result ≡ band_count kind (viewed s views count) }
+// How far the partials of a channel reach: the place after the last that is not 0. (A chain of `rev`, `find` and `map_or` is no plainer.)
+fn reach_of(s: &[u8], v: EntryView, c: u32) -> u32
+    ensures { result ≡ partial_reach (entry_at s.now v) c v.m_partials }
 {
-    let mut best: u32 = 0;
-    let mut i = 0;
-    while i < count {
-        let v = views[i];
-        best = larger(best, bands_of(kind, v));
-        i += 1;
-    }
-    best
-}
-
-fn most_channels(views: [EntryView; 16], count: usize) -> u32
-    requires { count ≤ max_entries }
-    ensures { (s : List ℕ) → result ≡ most_channels (viewed s views count) }
-{
-    let mut best: u32 = 0;
-    let mut i = 0;
-    while i < count {
-        let v = views[i];
-        best = larger(best, v.k_channels);
-        i += 1;
-    }
-    best
-}
-
-pub fn channel_count(views: [EntryView; 16], count: usize, kind: Kind) -> u32
-    requires { count ≤ max_entries }
-    ensures { ((s : List ℕ) → result ≡ channel_count kind (viewed s views count)) × (result ≤ max_blended) }
-{
-    match kind {
-        Kind::Single(_) => 1,
-        Kind::Blend => {
-            let most = most_channels(views, count);
-            if most <= MAX_BLENDED {
-                most
-            } else {
-                MAX_BLENDED
-            }
+    for i in (0..v.m_partials).rev() {
+        if partial_coeff(s, v, c, i) != 0.0 {
+            return i + 1;
         }
-    }
-}
-
-// How far the first n partials of a channel reach.
-fn reach_of(s: &[u8], v: EntryView, c: u32, n: u32) -> u32
-    ensures { result ≡ partial_reach (entry_at s.now v) c n }
-{
-    let mut i = n;
-    while 0 < i {
-        if partial_coeff(s, v, c, i - 1) != 0.0 {
-            return i;
-        }
-        i -= 1;
     }
     0
 }
@@ -76,13 +27,7 @@ fn reach_of(s: &[u8], v: EntryView, c: u32, n: u32) -> u32
 fn reach_in(s: &[u8], v: EntryView, n: u32) -> u32
     ensures { result ≡ reach_in (entry_at s.now v) n }
 {
-    let mut best: u32 = 0;
-    let mut q: u32 = 0;
-    while q < n {
-        best = larger(best, reach_of(s, v, q, v.m_partials));
-        q += 1;
-    }
-    best
+    (0..n).map(|c| reach_of(s, v, c)).max().unwrap_or(0)
 }
 
 fn phases_for(s: &[u8], v: EntryView, kind: Kind, n: u32) -> u32
@@ -100,16 +45,42 @@ fn phases_for(s: &[u8], v: EntryView, kind: Kind, n: u32) -> u32
     }
 }
 
-pub fn phase_count(s: &[u8], views: [EntryView; 16], count: usize, kind: Kind, n: u32) -> u32
-    requires { count ≤ max_entries }
-    ensures { result ≡ phase_count kind n (viewed s.now views count) }
-{
-    let mut best: u32 = 0;
-    let mut i = 0;
-    while i < count {
-        let v = views[i];
-        best = larger(best, phases_for(s, v, kind, n));
-        i += 1;
+impl Entries<'_> {
+    // The largest band count that an entry gives the voice.
+    pub fn band_count(&self, kind: Kind) -> u32
+        ensures { result ≡ band_count kind (entries_in self.now) }
+    {
+        self.views
+            .iter()
+            .map(|v| bands_of(kind, *v))
+            .max()
+            .unwrap_or(0)
     }
-    best
+
+    fn most_channels(&self) -> u32
+        ensures { result ≡ most_channels (entries_in self.now) }
+    {
+        self.views.iter().map(|v| v.k_channels).max().unwrap_or(0)
+    }
+
+    pub fn channel_count(&self, kind: Kind) -> u32
+        ensures { result ≡ channel_count kind (entries_in self.now) }
+    {
+        match kind {
+            Kind::Single(_) => 1,
+            Kind::Blend => self.most_channels().min(MAX_BLENDED as u32),
+        }
+    }
+
+    // The phases of a voice that sounds n channels.
+    pub fn phase_count(&self, kind: Kind, n: u32) -> u32
+        ensures { result ≡ phase_count kind n (entries_in self.now) }
+    {
+        let image = self.image;
+        self.views
+            .iter()
+            .map(|v| phases_for(image, *v, kind, n))
+            .max()
+            .unwrap_or(0)
+    }
 }

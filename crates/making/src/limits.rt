@@ -1,36 +1,23 @@
 // Question 8: at most 32 partials and 16 bands in each entry. (That there are at most 16 entries is tested before.)
-ghost use Rattle.std.specs.Prelude.{◌≡◌, ℕ, ◌≤◌, List};
+ghost use Rattle.std.specs.Prelude.{◌≡◌, ℕ, List};
 ghost use Rattle.table.specs.View.{entry_at};
 ghost use Rattle.making.specs.Making.{all, sizes_ok};
-ghost use Rattle.making.specs.inner.Views.{viewed};
-ghost use Rattle.voice.specs.Limits.{max_entries};
+ghost use Rattle.making.specs.inner.Views.{entries_in};
 
+use crate::entries::Entries;
 use table::entry::EntryView;
-
-const MAX_PARTIALS: u32 = 32;
-
-const MAX_BANDS: u32 = 16;
+use voice::{MAX_BANDS, MAX_PARTIALS};
 
 fn size_ok(v: EntryView) -> bool
     ensures { (s : List ℕ) → result ≡ sizes_ok (entry_at s v) }
 {
-    if v.m_partials <= MAX_PARTIALS {
-        return v.j_noise <= MAX_BANDS;
-    }
-    false
+    v.m_partials as usize <= MAX_PARTIALS && v.j_noise as usize <= MAX_BANDS
 }
 
-pub fn sizes_ok(views: [EntryView; 16], count: usize) -> bool
-    requires { count ≤ max_entries }
-    ensures { (s : List ℕ) → result ≡ all sizes_ok (viewed s views count) }
-{
-    let mut i = 0;
-    while i < count {
-        let v = views[i];
-        if !size_ok(v) {
-            return false;
-        }
-        i += 1;
+impl Entries<'_> {
+    pub fn sizes_ok(&self) -> bool
+        ensures { result ≡ all sizes_ok (entries_in self.now) }
+    {
+        self.views.iter().all(|v| size_ok(*v))
     }
-    true
 }

@@ -14,11 +14,7 @@ pub fn centres_list(centres: &[f32]) -> [f32; 16]
     ensures { result ≡ padded max_bands (quotient 0 1) centres.now }
 {
     let mut list = [0.0; 16];
-    let mut i = 0;
-    while i < centres.len() {
-        list[i] = centres[i];
-        i += 1;
-    }
+    list[..centres.len()].copy_from_slice(centres);
     list
 }
 
@@ -26,13 +22,9 @@ pub fn centres_list(centres: &[f32]) -> [f32; 16]
 pub fn lists_of(cols: Columns, centres: [f32; 16]) -> [f32; LISTS_PLACES]
     ensures { result ≡ lists_from cols centres }
 {
-    let f0_hz = cols.f0_hz;
-    let stretch = cols.stretch;
-    let mainlobe_gain = cols.mainlobe_gain;
-    let noise_gain = cols.noise_gain;
-    let pitches = put_list([0.0; LISTS_PLACES], PITCHES, f0_hz);
-    let stretches = put_list(pitches, STRETCHES, stretch);
-    let mainlobes = put_list(stretches, MAINLOBE_GAINS, mainlobe_gain);
-    let noises = put_list(mainlobes, NOISE_GAINS, noise_gain);
+    let pitches = put_list([0.0; LISTS_PLACES], PITCHES, cols.f0_hz);
+    let stretches = put_list(pitches, STRETCHES, cols.stretch);
+    let mainlobes = put_list(stretches, MAINLOBE_GAINS, cols.mainlobe_gain);
+    let noises = put_list(mainlobes, NOISE_GAINS, cols.noise_gain);
     put_list(noises, CENTRES, centres)
 }

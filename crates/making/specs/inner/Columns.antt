@@ -1,13 +1,11 @@
 -- Arrays as the code holds them on the way to a voice. Cited by private functions only.
 use Rattle.std.specs.Prelude.{ℕ, List, ◌++◌, map, replicate, Float}
-use Rattle.std.proofs.Math.Option.{Option, some, none}
 use Rattle.table.specs.Table.{PitchEntry}
 use Rattle.float.specs.F32.{quotient}
 use Rattle.voice.specs.Lists.{padded}
 use Rattle.voice.specs.Limits.{max_entries}
 use Rattle.making.specs.Making.{f32, gain_of, mainlobe_key, noise_gain_key}
 use Rattle.making.specs.declared.fill.Columns.{Columns}
-use Rattle.making.specs.declared.fill.Slot.{Slot}
 
 -- the places of lists 4 to 9: the bands' coefficients and their compensations
 abbrev pub band_places : ℕ
@@ -27,8 +25,3 @@ abbrev pub lists_from : Columns → List Float → List Float
 lists_from cols centres =
     cols.f0_hz
     ++ (cols.stretch ++ (cols.mainlobe_gain ++ (cols.noise_gain ++ (replicate band_places (quotient 0 1) ++ centres))))
-
--- the channel that a slot holds
-abbrev pub slot_option : Slot → Option ℕ
-slot_option (Slot.Channel c) = some c
-slot_option Slot.Empty = none

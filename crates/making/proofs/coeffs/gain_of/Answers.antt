@@ -1,6 +1,8 @@
-use mathlib.Core.Path.{refl}
+use lib.Ieee.{of_bits, round}
+use borrow.Author.Rules.{rules}
+use Rattle.making.proofs.CoeffLaws.{gain-is}
 use Rattle.making.proofs.coeffs.gain_of.Goals as goal
 
 pub returns : goal.returns
-returns c =
-    rw (c.gain_or_1.ensures, c.metadata_value.ensures) refl
+unfolding of_bits round
+returns c = rw (← c.metadata_value.ensures) (gain-is c.metadata_value.result c.map_or.result _ (λ b p. search rules) c.map_or.ensures)

@@ -9,7 +9,3 @@ returns-then-has_channel c =
 pub returns-else-has_channel : goal.returns-else-has_channel
 returns-else-has_channel c =
     rw (c.in-Single.is, sym (c.has_channel.ensures c.args.s.now) ∙ c.if-has_channel.false) refl
-
-pub returns-in-Blend : goal.returns-in-Blend
-returns-in-Blend c =
-    c.reach_in.ensures ∙ rw c.in-Blend.is refl

@@ -1,22 +1,11 @@
--- `centres_list` meets its contract.
-use mathlib.Core.Path.{refl}
-use mathlib.Core.List.{map-id}
-use native.Mathlib.Omega.{arith}
-use lib.ListN.{take}
-use lib.Seq.{take_all}
-use lib.Ieee.{Float, nan, of_bits, round}
+use mathlib.Core.Path.{ap}
+use mathlib.Core.List.{List, ◌++◌}
+use lib.ListN.{length}
+use lib.Ieee.{Float, of_bits, round}
 use Rattle.float.specs.F32.{quotient}
-use Rattle.voice.proofs.PadLaws.{pad-again}
+use Rattle.voice.proofs.Loops.{drop-replicate}
 use Rattle.making.proofs.lists.centres_list.Goals as goal
 
-pub loop-i-init : goal.loop-i-init
-unfolding of_bits round
-loop-i-init c = (omega arith, refl)
-
-pub loop-i-preserved : goal.loop-i-preserved
-loop-i-preserved c =
-    (omega arith, pad-again (λ (c : Float). c) (quotient 0 1) nan 16 c.loop-i.i c.args.centres.now c.loop-i.list (omega arith) (omega (arith, c.requires)) c.loop-i.invariant.1)
-
 pub returns : goal.returns
-returns c =
-    rw (c.loop-i.invariant.1, map-id (take c.loop-i.i c.args.centres.now), take_all c.loop-i.i c.args.centres.now c.loop-i-test.false) refl
+unfolding of_bits round
+returns c = rw c.copy_from_slice.ensures.after (ap (λ (l : List Float). c.args.centres.now ++ l) (drop-replicate (quotient 0 1) (length c.args.centres.now) 16))

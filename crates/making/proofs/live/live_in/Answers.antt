@@ -1,25 +1,19 @@
-use mathlib.Core.Path.{◌≡◌, refl, sym, ap, ◌∙◌}
+use Prim.Native.Nat.{ℕ}
+use mathlib.Core.Path.{refl, ◌∙◌}
 use native.Mathlib.Omega.{arith}
 use lib.Ieee.{of_bits, round}
-use Rattle.making.specs.Making.{live_in, is_nonzero}
-use Rattle.making.proofs.CoeffLaws.{live-hit, live-miss}
+use borrow.Author.Rules.{rules}
+use borrow.Author.Tests.{tests}
+use Rattle.std.proofs.lemmas.Iterator.{YieldsList-from_range}
+use Rattle.std.proofs.lemmas.Iterator.Search.{any_from_yields_List}
+use Rattle.table.specs.View.{entry_at}
+use Rattle.making.specs.Making.{is_nonzero, noise_coeff}
+use Rattle.making.proofs.RangeLaws.{live-below}
 use Rattle.making.proofs.live.live_in.Goals as goal
 
-pub loop-q-init : goal.loop-q-init
-loop-q-init c =
-    (omega arith, refl)
-
-pub returns-then-noise_coeff : goal.returns-then-noise_coeff
-unfolding of_bits round
-returns-then-noise_coeff c =
-    live-hit _ _ _ _ c.loop-q.invariant.1 c.loop-q-test.true (ap is_nonzero (sym c.noise_coeff.ensures) ∙ c.if-noise_coeff.true)
-
-pub loop-q-preserved : goal.loop-q-preserved
-unfolding of_bits round
-loop-q-preserved c =
-    (omega arith, live-miss _ _ _ _ c.loop-q.invariant.1 c.loop-q-test.true (ap is_nonzero (sym c.noise_coeff.ensures) ∙ c.if-noise_coeff.false))
-
 pub returns : goal.returns
-unfolding live_in
+unfolding of_bits round
 returns c =
-    let z : c.loop-q.q ≡ 0 = omega arith in rw z at c.loop-q.invariant.1
+    let e = entry_at c.args.s.now c.args.v in
+    any_from_yields_List (λ (q : ℕ). is_nonzero (noise_coeff e q c.args.b)) _ _ c.any.result c.any.ensures.ran (YieldsList-from_range 0 c.args.n c.args.n refl (omega arith)) (λ x b q k. search (rules, tests))
+    ∙ live-below e c.args.b c.args.n

@@ -1,32 +1,28 @@
-use mathlib.Core.Path.{refl, sym, ap, ◌∙◌}
 use Prim.Native.Nat.{ℕ}
+use mathlib.Core.Path.{refl, sym, ap, ◌∙◌}
 use native.Mathlib.Omega.{arith}
+use lib.ListN.{get_or}
 use lib.Ieee.Scale.{finite}
+use borrow.Author.Rules.{rules}
+use borrow.Author.Tests.{tests}
+use Rattle.std.specs.List.{list_all}
+use Rattle.std.proofs.lemmas.Iterator.{YieldsList-from_range, YieldsList-from_map}
+use Rattle.std.proofs.lemmas.Iterator.Search.{all_from_yields_List}
+use Rattle.std.proofs.lemmas.List.FromFn.{fill_by_all}
+use Rattle.table.specs.View.{entry_at}
 use Rattle.table.proofs.WordLaws.{length-words}
 use Rattle.making.specs.Making.{f32}
-use Rattle.making.proofs.MakeLists.{all-drop-go, all-drop-no, all-drop-end}
+use Rattle.making.proofs.ViewLaws.{all-listed}
 use Rattle.making.proofs.values.coefficients_ok.Goals as goal
-
-pub loop-x-init : goal.loop-x-init
-loop-x-init c = (omega arith, refl)
-
-pub returns-then-not-is_finite : goal.returns-then-not-is_finite
-returns-then-not-is_finite c =
-    let l = c.loop-x in
-    let v = c.args.v in
-    let n = length-words c.args.s.now v.coefficients_at v.coefficients in
-    sym (sym l.invariant.1 ∙ all-drop-no (λ b. finite (f32 b)) 0 _ l.x (rw n c.loop-x-test.true) (ap (λ (w : ℕ). finite (f32 w)) (sym c.nth_coefficient.ensures) ∙ ap finite (sym c.from_bits.ensures) ∙ sym c.is_finite.ensures ∙ c.if-not-is_finite.true))
-
-pub loop-x-preserved : goal.loop-x-preserved
-loop-x-preserved c =
-    let l = c.loop-x in
-    let v = c.args.v in
-    let n = length-words c.args.s.now v.coefficients_at v.coefficients in (
-      omega arith,
-      sym (all-drop-go (λ b. finite (f32 b)) 0 _ l.x (rw n c.loop-x-test.true) (ap (λ (w : ℕ). finite (f32 w)) (sym c.nth_coefficient.ensures) ∙ ap finite (sym c.from_bits.ensures) ∙ sym c.is_finite.ensures ∙ c.if-not-is_finite.false)) ∙ l.invariant.1,
-    )
 
 pub returns : goal.returns
 returns c =
-    let n = length-words c.args.s.now c.args.v.coefficients_at c.args.v.coefficients in
-    sym (sym c.loop-x.invariant.1 ∙ all-drop-end (λ b. finite (f32 b)) 0 _ c.loop-x.x (rw n c.loop-x-test.false))
+    let s = c.args.s.now in
+    let v = c.args.v in
+    let n = v.coefficients in
+    let l = (entry_at s v).coefficients in
+    let at = λ (x : ℕ). get_or l x 0 in
+    let f = λ (b : ℕ). finite (f32 b) in
+    all_from_yields_List f _ _ c.all.result c.all.ensures.ran (YieldsList-from_map _ at (YieldsList-from_range 0 n n c.map.ensures.source (omega arith)) c.map.ensures.closure (λ x b q k. search (rules, tests))) (λ x b q k. search (rules, tests))
+    ∙ ap (list_all f) (sym (fill_by_all at l n 0 (length-words s v.coefficients_at n) (λ k h. refl)))
+    ∙ all-listed f l
