@@ -2,7 +2,7 @@
 use Prim.Native.Nat.{ℕ, ◌+◌, ◌-◌, ◌≤◌, ◌<◌}
 use mathlib.Core.Path.{◌≡◌, refl, ap, sym, ◌∙◌}
 use mathlib.Core.List.{List, ◌++◌}
-use mathlib.Core.Bool.{Bool, true, false}
+use mathlib.Core.Bool.{Bool, true}
 use native.Mathlib.Omega.{arith}
 use lib.ListN.{length, length-append}
 use borrow.Author.Tests.{le-leb, lt-leb}
@@ -36,10 +36,6 @@ second-no s v n e r before h g = accepted-table s n e h λ t p l. rw (p, refused
 pub agreed-so : (v : Verdict) → agrees v ≡ true → v ≡ agreed
 agreed-so agreed h = refl
 agreed-so (broken r) h = let z : ◌≡◌ {A = ℕ} 0 1 = cc in absurd (omega arith)
-
-broken-so : {G : Type 0} (v : Verdict) → agrees v ≡ false → ((r : Refusal) → v ≡ broken r → G) → G
-broken-so agreed h k = let z : ◌≡◌ {A = ℕ} 0 1 = cc in absurd (omega arith)
-broken-so (broken r) h k = k r refl
 
 -- ---- the questions of two accepted tables and a target of n bytes, in the card's numbers
 module _ (t u : CoeffTable) (n : ℕ) where
@@ -96,9 +92,6 @@ module _ (s v : List ℕ) (bs : Bytes s) (bv : Bytes v) (x y : Extent) (p : Hold
     -- from an answer of the questions
     refuse : (r : Refusal) → joined_outcome (joined t u) (length before) ≡ merge_refused r → Answers s v (merge_refused r) before before
     refuse r k = rw (p.read, q.read, k) (refl, refl)
-
-    pub out-21 : verdict ≡ false → Answers s v (merge_refused (refusal 21 0 0)) before before
-    out-21 h = broken-so (consistent (t.entries ++ u.entries)) (sym verdict-is ∙ h) λ r k. refuse (refusal 21 0 0) (question-21 t u (length before) r k)
 
     pub out-22 : verdict ≡ true → 65536 < bytes → Answers s v (merge_refused (refusal 22 0 0)) before before
     out-22 h g = refuse (refusal 22 0 0) (question-22 t u (length before) (all-agreed h) (rw bytes-are g))

@@ -1,12 +1,12 @@
 -- Laws of what stands before the entries, as the code writes it. Assumes nothing but that an image's bytes are below 256.
 use Prim.Native.Nat.{ℕ, ◌+◌, ◌-◌, ◌≤◌}
 use mathlib.Core.Path.{◌≡◌, refl, ap, sym, ◌∙◌}
-use mathlib.Core.List.{List, [], ◌∷◌, ◌++◌}
+use mathlib.Core.List.{List, [], ◌∷◌, ◌++◌, append_assoc}
 use native.Mathlib.Omega.{arith}
-use native.Mathlib.Nat.{zero-add}
-use native.Mathlib.Numerals.{add-one, add-two, add-three}
 use lib.ListN.{length, get_or, take, drop, set}
-use lib.Seq.{length-take-le, take_at, drop_at, drop-cons, drop-drop, take-add, sets-eq}
+use lib.Seq.{take_at, drop_at, drop-cons, drop-drop, take-add}
+use borrow.Rule.Slice.PartMut.{put_mid}
+use Rattle.std.specs.Int.{w32, to_le_bytes}
 use Rattle.wire.specs.Parse.{Parsed, ok}
 use Rattle.wire.specs.Cursor.{part, le32, string}
 use Rattle.wire.proofs.Found.{u32-is, string-is}
@@ -22,10 +22,7 @@ use Rattle.table.specs.Answer.{counts}
 use Rattle.table.proofs.ReadLaws.{accepted-table}
 use Rattle.merging.specs.declared.extent.Extent.{Extent}
 use Rattle.merging.specs.inner.Extent.{AcceptedAt}
-use Rattle.merging.specs.inner.Image.{laid, head_of}
-
-pub put_four : (d : List ℕ) (at a b c e : ℕ) → at + 4 ≤ length d → set (set (set (set d at a) (at + 1) b) (at + 2) c) (at + 3) e ≡ laid d at (a ∷ b ∷ c ∷ e ∷ [])
-put_four d at a b c e h = rw (add-one, add-two, add-three) (sets-eq (a ∷ b ∷ c ∷ e ∷ []) d at h)
+use Rattle.merging.specs.inner.Image.{head_of}
 
 -- the beginning of an accepted image, up to its entry count
 pub record Begins (s : List ℕ) (name : List ℕ) : Type 0 where
@@ -58,27 +55,24 @@ begins s byte t e h =
           ∙ ap (λ (x : List ℕ). magic ++ ((get_or s 4 0 ∷ get_or s 5 0 ∷ []) ++ x)) (ap (take (m - 6)) (drop-drop 2 4 s) ∙ sym w.bytes ∙ ap put_str same);
     }
 
--- the beginning copied, the version set, and the entry count laid after it
-pub head-written : (s name before : List ℕ) (at n : ℕ) → Begins s name → at ≡ 14 + length name → at ≤ length before → (copied after : List ℕ)
-    → copied ≡ laid before 0 (take (at - 4 - 0) (drop 0 s)) → after ≡ laid (set (set copied 4 1) 5 0) (at - 4) (put_u32 n) → after ≡ head_of name n ++ drop at before
-head-written s name before at n b e room copied after h g =
+-- the beginning copied, the version set, and the entry count put in after it
+pub head-written : (s name before : List ℕ) (at n : ℕ) → Begins s name → at ≡ 14 + length name → at ≤ length before
+    → (start four : List ℕ) → start ≡ take (at - 4) s → four ≡ to_le_bytes w32 n
+    → put_mid (at - 4) (at - 4 + 4 - (at - 4)) (set (set (start ++ drop (at - 4) before) 4 1) 5 0) four ≡ head_of name n ++ drop at before
+head-written s name before at n b e room start four h g =
     let m : at - 4 ≡ 10 + length name = omega arith in
-    let k : at - 4 - 0 ≡ 10 + length name = omega arith in
-    let i : 14 + length name ≤ length s = b.room in
-    let l : length (take (10 + length name) s) ≡ 10 + length name = length-take-le (10 + length name) s (omega arith) in
+    let k : at - 4 + 4 - (at - 4) ≡ 4 = omega arith in
     let z : List ℕ = magic ++ put_u16 1 ++ put_str name in
     let w : length z ≡ 10 + length name = omega arith in
     let o : 10 + length name + 4 ≡ at = omega arith in
-    let c : copied ≡ magic ++ (b.fourth ∷ b.fifth ∷ []) ++ put_str name ++ drop (10 + length name) before =
-    h ∙ rw (k, l, zero-add) (ap (λ (x : List ℕ). x ++ drop (10 + length name) before) b.bytes) in
-    let v : set (set copied 4 1) 5 0 ≡ z ++ drop (10 + length name) before = rw c refl in
+    let c : start ≡ magic ++ (b.fourth ∷ b.fifth ∷ []) ++ put_str name = h ∙ rw m b.bytes in
+    let v : set (set (start ++ drop (at - 4) before) 4 1) 5 0 ≡ z ++ drop (10 + length name) before = rw (c, m) refl in
     let x : take (10 + length name) (z ++ drop (10 + length name) before) ≡ z = take_at z (drop (10 + length name) before) (10 + length name) w in
-    let y : drop (10 + length name + 4) (z ++ drop (10 + length name) before) ≡ drop at before =
-    sym (drop-drop 4 (10 + length name) (z ++ drop (10 + length name) before))
-    ∙ ap (drop 4) (drop_at z (drop (10 + length name) before) (10 + length name) w)
+    let y : drop 4 (drop (10 + length name) (z ++ drop (10 + length name) before)) ≡ drop at before =
+    ap (drop 4) (drop_at z (drop (10 + length name) before) (10 + length name) w)
     ∙ drop-drop 4 (10 + length name) before
     ∙ ap (λ (d : ℕ). drop d before) o in
-    g ∙ rw (v, m, x, y) refl
+    rw (k, v, m, x, y, g) (sym (append_assoc z (put_u32 n) (drop at before)))
 
 pub begins-at : (s : List ℕ) → Bytes s → (x : Extent) → AcceptedAt s x → Begins s (name_of (decode s))
 begins-at s byte x w = accepted-table s x.count x.end w.accepted λ t h l. rw h (begins s byte t x.end h)

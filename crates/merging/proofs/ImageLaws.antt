@@ -1,13 +1,14 @@
 -- Laws of the whole merge, by what the code knows of two accepted images. Assumes nothing but that the images' bytes are below 256.
-use Prim.Native.Nat.{ℕ, suc, ◌+◌, ◌-◌, ◌*◌, ◌≤◌}
+use Prim.Native.Nat.{ℕ, ◌+◌, ◌-◌, ◌*◌, ◌≤◌}
 use mathlib.Core.Path.{◌≡◌, refl, ap, sym, ◌∙◌}
-use mathlib.Core.List.{List, [], ◌∷◌, ◌++◌, append_assoc}
+use mathlib.Core.List.{List, [], ◌∷◌, ◌++◌}
 use mathlib.Core.Bool.{true}
 use native.Mathlib.Omega.{arith}
 use lib.ListN.{length, take, drop, length-append}
-use lib.Seq.{take_at, drop_at, drop-drop, length-take-le}
-use Rattle.wire.specs.Parse.{Parsed, ok, refused}
-use Rattle.wire.proofs.Many.{many-stand, many-length}
+use lib.Seq.{take_at, drop_at, drop-drop}
+use borrow.Rule.Slice.PartMut.{put_mid}
+use Rattle.wire.specs.Parse.{Parsed, ok}
+use Rattle.wire.proofs.Many.{many-stand}
 use Rattle.table.specs.declared.start.Start.{Start}
 use Rattle.table.specs.Table.{PitchEntry, CoeffTable}
 use Rattle.table.specs.Size.{total, entry_size}
@@ -16,24 +17,24 @@ use Rattle.table.specs.inner.Entry.{entry_list}
 use Rattle.table.specs.Span.{Verdict, agreed, broken, consistent, ruled}
 use Rattle.table.specs.Start.{start_of}
 use Rattle.table.specs.Decode.{decode, name_of, entries_of}
-use Rattle.table.specs.Encode.{put_all, put_entry, encode}
+use Rattle.table.specs.Encode.{put_all, put_entry}
 use Rattle.table.proofs.SizeLaws.{entry-end, many-end}
 use Rattle.table.proofs.StartLaws.{start_is}
 use Rattle.table.proofs.ReadLaws.{accepted-table}
 use Rattle.table.proofs.Spelled.{read_again, table-parts}
 use Rattle.table.proofs.RoundTrip.{Bytes}
-use Rattle.merging.specs.inner.Sorted.{self, ordered}
-use Rattle.merging.proofs.OrderLaws.{length-arranged, arranged-order}
-use Rattle.merging.specs.Order.{pitch_rank}
+use Rattle.merging.proofs.OrderLaws.{length-arranged, arranged-order, length-order}
+use Rattle.merging.proofs.SortLaws.{Fitting}
+use Rattle.merging.specs.Order.{pitch_rank, Every}
 use Rattle.merging.specs.declared.extent.Extent.{Extent}
-use Rattle.merging.specs.Merge.{joined}
+use Rattle.merging.specs.declared.accepted.Accepted.{Accepted}
 use Rattle.merging.specs.inner.Extent.{AcceptedAt}
 use Rattle.table.specs.inner.Answers.{reads}
-use Rattle.merging.specs.inner.Keys.{keys_from, keys_of, bytes_for}
+use Rattle.merging.specs.declared.keys.Key.{Key}
+use Rattle.merging.specs.inner.Keys.{rank, keys_from, keys_of, joined_bytes}
 use Rattle.merging.specs.inner.Image.{laid, head_of, stable, stable_image, stable_over}
 use Rattle.merging.proofs.AcceptedLaws.{encode-entries, head-length}
-use Rattle.merging.proofs.KeyLaws.{keys-join, keys-merged}
-use Rattle.merging.proofs.MergeLaws.{stable-merged, merged-size, joined-size}
+use Rattle.merging.proofs.KeyLaws.{length-keys, keys-fit, keys-merged}
 
 -- what an accepted image holds
 pub record Holds (s : List ℕ) (x : Extent) : Type 0 where
@@ -75,6 +76,9 @@ holds s byte x w =
       agree = rw same at (ruled-agreed (consistent es) x.end p.ruling);
     }
 
+pub holds-of : (a : Accepted) → Holds a.image.now a.extent
+holds-of a = holds a.image.now a.bytes a.extent a.placed
+
 module _ (s : List ℕ) (x : Extent) (w : Holds s x) where
   pub holds-reads : reads (entries x.count s x.at) ≡ true
   holds-reads = ap reads w.reading
@@ -113,27 +117,10 @@ module _ (s v : List ℕ) (bs : Bytes s) (bv : Bytes v) (x y : Extent) (p : Hold
 
   -- the bytes of the entries, in the order of the keys
   abbrev pub rest : List ℕ
-  rest = put_all (bytes_for s x v y) (keys_of s x v)
-
-  -- LAW: how long the result is, by where the images' entries end
-  pub result-size : length (stable_image (decode s) (decode v)) ≡ x.end + (y.end - y.at)
-  result-size =
-      let a : length (encode (joined t u)) ≡ x.end + (y.end - (14 + length u.name)) = joined-size s v bs bv t u x.end y.end p.read q.read in
-      rw (p.read, q.read) (merged-size t u (stable t u) (stable-merged t u) ∙ a) ∙ ap (λ (n : ℕ). x.end + (y.end - n)) (sym q.start)
-
-  second-end : y.end ≡ y.at + total entry_size u.entries
-  second-end = many-end entry entry_size v (λ i at e b. entry-end i v at e b) y.count 0 y.at y.end u.entries q.reading
-
-  pub second_fits : x.end + total entry_size u.entries ≤ 65536
-  second_fits =
-      let a : length (stable_image (decode s) (decode v)) ≡ x.end + (y.end - y.at) = result-size in
-      let b : y.end ≡ y.at + total entry_size u.entries = second-end in
-      omega arith
+  rest = joined_bytes s (keys_of s x) v (keys_of v y)
 
   rest-is : rest ≡ put_all put_entry (stable t u)
-  rest-is =
-      let a : x.at ≡ 14 + length t.name = p.start in
-      rw (p.read, q.read) (keys-merged s v bs bv x y t.entries u.entries p.reading q.reading (omega arith) second_fits)
+  rest-is = rw (p.read, q.read) (keys-merged s v bs bv x.count y.count x.at y.at x.end y.end t.entries u.entries p.reading q.reading)
 
   image-is : stable_image (decode s) (decode v) ≡ head_of (name_of (decode s)) (x.count + y.count) ++ rest
   image-is = rw (rest-is) (rw (p.read, q.read, encode-entries t (stable t u), stable-length) refl)
@@ -165,37 +152,49 @@ module _ (s v : List ℕ) (bs : Bytes s) (bv : Bytes v) (x y : Extent) (p : Hold
       sym (drop-drop (length rest) x.at (k ++ drop x.at before)) ∙ ap (drop (length rest)) (drop_at k (drop x.at before) x.at head-size) ∙ drop-drop (length rest) x.at before in
       g ∙ rw (h, a, b, image-size, image-is) refl
 
--- ---- the keys, as the code gathers them
-length-keys : (at : ℕ) (es : List PitchEntry) → length (keys_from at es) ≡ length es
-unfolding keys_from
-length-keys at [] = refl
-length-keys at (e ∷ es) = ap suc (length-keys (at + entry_size e) es)
+-- ---- the keys of two images in order, in two parts of one array
+-- two lists put in at the front of an array
+two_parts : (k₁ k₂ rest : List Key) (n m : ℕ) → length k₁ ≡ n → length k₂ ≡ m
+    → (take n (put_mid n (n + m - n) (k₁ ++ rest) k₂) ≡ k₁) × (take (n + m - n) (drop n (put_mid n (n + m - n) (k₁ ++ rest) k₂)) ≡ k₂)
+two_parts k₁ k₂ rest n m p q =
+    let z : n + m - n ≡ m = omega arith in
+    let a : take n (k₁ ++ rest) ≡ k₁ = take_at k₁ rest n p in
+    let post : List Key = drop m (drop n (k₁ ++ rest)) in
+    (rw (z, a) (take_at k₁ (k₂ ++ post) n p), rw (z, a, drop_at k₁ (k₂ ++ post) n p) (take_at k₂ post m q))
 
-length-read : (n : ℕ) (s : List ℕ) (at : ℕ) → reads (entries n s at) ≡ true → length (entry_list n s at) ≡ n
-length-read n s at h = go (entries n s at) refl h
-  where
-    go : (p : Parsed (List PitchEntry)) → entries n s at ≡ p → reads p ≡ true → length (entry_list n s at) ≡ n
-    go (ok l e) k r = ap length (many-stand entry s n 0 at e l k) ∙ many-length entry s n 0 at e l k
-    go (refused r) k z = let w : ◌≡◌ {A = ℕ} 0 1 = cc in absurd (omega arith)
+-- an image has as many keys as entries, and they fit
+pub many-keys : (a : Accepted) → length (keys_of a.image.now a.extent) ≡ a.extent.count
+many-keys a =
+    let h = holds-of a in
+    length-order rank (keys_from a.extent.at (entries_of (decode a.image.now)))
+    ∙ length-keys a.extent.at (entries_of (decode a.image.now))
+    ∙ ap length (holds-entries _ _ h)
+    ∙ sym h.count
 
-gathered : (x y before k₁ k₂ : List ℕ) (n m : ℕ) → length x ≡ n → length y ≡ m → k₁ ≡ take 0 before ++ (x ++ drop (0 + n) before) → k₂ ≡ take n k₁ ++ (y ++ drop (n + m) k₁)
-    → take (n + m) k₂ ≡ x ++ y
-gathered x y before k₁ k₂ n m p q h g =
-    let a : take n k₁ ≡ x = rw h (take_at x (drop (0 + n) before) n p) in
-    let z : length (x ++ y) ≡ n + m = length-append x y ∙ omega arith in
-    rw (g, a, ← append_assoc x y (drop (n + m) k₁)) (take_at (x ++ y) (drop (n + m) k₁) (n + m) z)
+pub keys-fitting : (a : Accepted) → Every Fitting (keys_from a.extent.at (entries_of (decode a.image.now)))
+keys-fitting a =
+    let p = holds-of a in
+    let x : a.extent.at ≡ 14 + length p.table.name = p.start in
+    let y : a.extent.end ≤ length a.image.now = p.end in
+    let z : length a.image.now ≤ 65536 = p.short in
+    let w : a.extent.end ≡ a.extent.at + total entry_size (entries_of (decode a.image.now)) = holds-end _ _ p ∙ ap (λ (l : List PitchEntry). a.extent.at + total entry_size l) (holds-list _ _ p) in
+    keys-fit a.extent.at (entries_of (decode a.image.now)) (omega arith) (omega arith)
 
-pub keys-are : (s v : List ℕ) (x y : Extent) → Holds s x → Holds v y → (before k₁ k₂ sorted : List ℕ)
-    → k₁ ≡ take 0 before ++ (keys_from x.at (entry_list x.count s x.at) ++ drop (0 + x.count) before)
-    → k₂ ≡ take x.count k₁ ++ (keys_from x.end (entry_list y.count v y.at) ++ drop (x.count + y.count) k₁)
-    → x.count + y.count ≤ length k₂ → sorted ≡ ordered (take (x.count + y.count) k₂) → take (x.count + y.count) (sorted ++ drop (x.count + y.count) k₂) ≡ keys_of s x v
-keys-are s v x y h k before k₁ k₂ sorted g i room e =
-    let es : List PitchEntry = entry_list x.count s x.at in
-    let fs : List PitchEntry = entry_list y.count v y.at in
-    let p : length (keys_from x.at es) ≡ x.count = length-keys x.at es ∙ length-read x.count s x.at (holds-reads s x h) in
-    let q : length (keys_from x.end fs) ≡ y.count = length-keys x.end fs ∙ length-read y.count v y.at (holds-reads v y k) in
-    let w : take (x.count + y.count) k₂ ≡ keys_from x.at es ++ keys_from x.end fs = gathered (keys_from x.at es) (keys_from x.end fs) before k₁ k₂ x.count y.count p q g i in
-    let z : length sorted ≡ x.count + y.count = ap length e ∙ length-arranged (arranged-order self (take (x.count + y.count) k₂)) ∙ length-take-le (x.count + y.count) k₂ room in
-    let o : x.end ≡ x.at + total entry_size es = holds-end s x h in
-    let j : keys_from x.at es ++ keys_from x.end fs ≡ keys_from x.at (es ++ fs) = ap (λ (n : ℕ). keys_from x.at es ++ keys_from n fs) o ∙ sym (keys-join x.at es fs) in
-    take_at sorted (drop (x.count + y.count) k₂) (x.count + y.count) z ∙ e ∙ ap ordered (w ∙ j) ∙ rw (holds-list s x h, holds-list v y k) refl
+module _ (a b : Accepted) (room k₁ k₂ : List Key) (h : k₁ ≡ keys_of a.image.now a.extent) (g : k₂ ≡ keys_of b.image.now b.extent) where
+  abbrev n : ℕ
+  n = a.extent.count
+
+  abbrev m : ℕ
+  m = b.extent.count
+
+  abbrev keys : List Key
+  keys = put_mid n (n + m - n) (k₁ ++ drop n room) k₂
+
+  parts : (take n keys ≡ k₁) × (take (n + m - n) (drop n keys) ≡ k₂)
+  parts = two_parts k₁ k₂ (drop n room) n m (ap length h ∙ many-keys a) (ap length g ∙ many-keys b)
+
+  pub first-part : take n keys ≡ keys_of a.image.now a.extent
+  first-part = parts.0 ∙ h
+
+  pub second-part : take (n + m - n) (drop n keys) ≡ keys_of b.image.now b.extent
+  second-part = parts.1 ∙ g

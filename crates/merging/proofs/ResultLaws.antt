@@ -6,6 +6,7 @@ use mathlib.Core.List.{List, ◌++◌}
 use mathlib.Core.Bool.{Bool, true, false, cond}
 use native.Mathlib.Omega.{arith}
 use lib.ListN.{length, take, drop}
+use Rattle.std.specs.Prelude.{Result, Ok, Err}
 use lib.Seq.{take_at, drop_at}
 use lib.Dec.{leb, eqb}
 use borrow.Author.Tests.{leb-true}
@@ -16,9 +17,11 @@ use Rattle.table.specs.Decode.{decode}
 use Rattle.table.specs.Encode.{encode}
 use Rattle.table.proofs.RoundTrip.{Bytes}
 use Rattle.table.proofs.Apart.{apart, error_of, error-back}
-use Rattle.merging.specs.declared.tables.Merging.{Merging}
+use Rattle.table.specs.declared.error.CoeffTableCodecError.{CoeffTableCodecError}
+use Rattle.table.specs.declared.rewrite.Written.{Written}
+use Rattle.merging.specs.declared.tables.MergeError.{MergeError}
 use Rattle.merging.specs.Merge.{with_entries, joined, Merged, MergeOutcome, written, first_refused, second_refused, merge_refused, joined_outcome, merging, MergedInto, LeftBy, MergeLeaves}
-use Rattle.merging.specs.Answer.{merging_outcome}
+use Rattle.merging.specs.Answer.{refused_outcome, merging_outcome}
 use Rattle.merging.proofs.OrderLaws.{length-arranged}
 use Rattle.merging.proofs.AnswerLaws.{agreed-so}
 use Rattle.merging.proofs.MergeLaws.{merged-count, merged-size, merged-accepted}
@@ -106,20 +109,26 @@ refused-stays (ok t e) (refused r) before after h g = g
 refused-stays (ok t e) (ok u f) before after h g = left_so (joined_outcome (joined t u) (length before)) t u before after h g
 
 -- ---- the answers apart
-abbrev merging_of : MergeOutcome → Merging
-merging_of (written n bytes) = Merging.Written n bytes
-merging_of (first_refused r) = Merging.FirstRefused (error_of r)
-merging_of (second_refused r) = Merging.SecondRefused (error_of r)
-merging_of (merge_refused r) = cond (eqb r.number 21) Merging.InconsistentSpans (cond (eqb r.number 22) Merging.TooLong Merging.TargetTooShort)
+abbrev error_from : ℕ → MergeError
+error_from n = cond (eqb n 21) MergeError.InconsistentSpans (cond (eqb n 22) MergeError.TooLong MergeError.TargetTooShort)
 
-merging-back : (m : Merging) → merging_of (merging_outcome m) ≡ m
-merging-back (Merging.Written n bytes) = refl
-merging-back (Merging.FirstRefused e) = ap Merging.FirstRefused (error-back e)
-merging-back (Merging.SecondRefused e) = ap Merging.SecondRefused (error-back e)
-merging-back Merging.InconsistentSpans = refl
-merging-back Merging.TooLong = refl
-merging-back Merging.TargetTooShort = refl
+abbrev merging_of : MergeOutcome → Result Written MergeError
+merging_of (written n bytes) = Ok (record { entries = n; bytes = bytes })
+merging_of (first_refused r) = Err (MergeError.First (error_of r))
+merging_of (second_refused r) = Err (MergeError.Second (error_of r))
+merging_of (merge_refused r) = Err (error_from r.number)
+
+refused-back : (e : MergeError) → merging_of (refused_outcome e) ≡ Err e
+refused-back (MergeError.First e) = ap (λ (x : CoeffTableCodecError). Err (MergeError.First x)) (error-back e)
+refused-back (MergeError.Second e) = ap (λ (x : CoeffTableCodecError). Err (MergeError.Second x)) (error-back e)
+refused-back MergeError.InconsistentSpans = refl
+refused-back MergeError.TooLong = refl
+refused-back MergeError.TargetTooShort = refl
+
+merging-back : (m : Result Written MergeError) → merging_of (merging_outcome m) ≡ m
+merging-back (Ok w) = refl
+merging-back (Err e) = refused-back e
 
 -- LAW: what the contract says of an answer fixes it
-pub merging-apart : (a b : Merging) → merging_outcome a ≡ merging_outcome b → a ≡ b
+pub merging-apart : (a b : Result Written MergeError) → merging_outcome a ≡ merging_outcome b → a ≡ b
 merging-apart a b e = apart merging_outcome merging_of merging-back a b e

@@ -6,6 +6,7 @@ use mathlib.Core.Bool.{true}
 use native.Mathlib.Omega.{arith}
 use lib.ListN.{length}
 use lib.Dec.{eqb}
+use Rattle.std.specs.Prelude.{Result, Ok, Err, IsOk}
 use Rattle.wire.specs.Parse.{Refusal, refusal, Parser, Parsed, ok, refused, asked, then, many}
 use Rattle.wire.specs.Cursor.{le32, u32, next_position}
 use Rattle.wire.proofs.Found.{u32-got, u32-is}
@@ -17,6 +18,11 @@ use Rattle.table.proofs.MetadataLaws.{was_read, next-read, pair_parts}
 use Rattle.table.proofs.SizeLaws.{counted-end}
 use Rattle.table.proofs.EntryLaws.{entry-by}
 use Rattle.table.specs.inner.Answers.{reads}
+
+-- what is not refused has a value
+pub never-refused : {T E : Type 0} (r : Result T E) → ((e : E) → r ≡ Err e → ⊥) → IsOk r
+never-refused (Ok x) h = refl
+never-refused (Err e) h = absurd (h e refl)
 
 -- a number that is there is read
 pub number-there : (s : List ℕ) (at : ℕ) (r : Refusal) → at + 4 ≤ length s → u32 s at ≡ refused r → ⊥

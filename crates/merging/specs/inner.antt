@@ -3,3 +3,4 @@ pub mod Sorted
 pub mod Extent
 pub mod Keys
 pub mod Image
+pub mod Accepted

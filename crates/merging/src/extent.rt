@@ -6,6 +6,7 @@ ghost use Rattle.table.specs.Decode.{decode, name_of};
 ghost use Rattle.merging.specs.inner.Extent.{AcceptedAt};
 
 use crate::skip::number_at;
+use table::read::Counts;
 
 // Where the first entry starts, how many there are, and where the last one ends.
 #[derive(Clone, Copy)]
@@ -17,14 +18,14 @@ pub struct Extent {
 
 // The entries start past the mark (4 bytes), the version (2), the name with its length (4) and the count (4). The image was read: its
 // length of the name is looked at again, and nothing else.
-pub fn extent_of(image: &[u8], count: usize, end: usize) -> Extent
-    requires { counts (decode image.now) ≡ ok count end }
+pub fn extent_of(image: &[u8], read: Counts) -> Extent
+    requires { counts (decode image.now) ≡ ok read.entries read.end }
     ensures { AcceptedAt image.now result }
 {
     let n = number_at(image, 6);
     Extent {
         at: 14 + (n as usize),
-        count,
-        end,
+        count: read.entries,
+        end: read.end,
     }
 }

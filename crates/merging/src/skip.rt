@@ -5,18 +5,14 @@ ghost use Rattle.table.specs.Image.{pairs, entry};
 ghost use Rattle.table.specs.inner.Entry.{numbers};
 ghost use Rattle.table.specs.inner.Answers.{reads};
 
-use wire::cursor::{Cursor, U32Read};
+use wire::cursor::Cursor;
 
 // The number at a position.
 pub fn number_at(s: &[u8], at: usize) -> u32
     requires { at + 4 ≤ length s.now }
     ensures { result ≡ le32 s.now at }
 {
-    let c = Cursor { at };
-    match c.u32(s) {
-        U32Read::Value(n, _) => n,
-        U32Read::UnexpectedEof => 0,
-    }
+    Cursor { at }.u32(s).unwrap().value
 }
 
 // Past two numbers, a count and as many numbers: an entry starts with this twice.
@@ -34,11 +30,9 @@ fn pairs_end(s: &[u8], at: usize, n: u32) -> usize
     ensures { result ≡ next_position (pairs n s.now at) at }
 {
     let mut end = at;
-    let mut i: u32 = 0;
-    while i < n {
+    for _ in 0..n {
         let size = number_at(s, end);
         end += 8 + (size as usize);
-        i += 1;
     }
     end
 }

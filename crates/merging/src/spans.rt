@@ -1,31 +1,25 @@
 // Question 7 of two accepted tables joined: since each agrees by itself, it is that of their first entries.
 ghost use Rattle.std.specs.Prelude.{◌≡◌, ◌++◌};
-ghost use Rattle.table.specs.Decode.{decode, entries_of};
+ghost use Rattle.table.specs.Decode.{entries_of};
 ghost use Rattle.table.specs.Span.{consistent, agrees};
-ghost use Rattle.merging.specs.inner.Extent.{AcceptedAt};
+ghost use Rattle.merging.specs.inner.Accepted.{read_as};
 
-use crate::extent::Extent;
-use table::entry::{EntryRead, entry_at};
+use crate::accepted::Accepted;
+use table::entry::entry_at;
 use table::spans_agree;
 use wire::cursor::Cursor;
 
 // Whether the entries of two accepted images agree together.
-pub fn joined_agree(first: &[u8], x: Extent, second: &[u8], y: Extent) -> bool
-    requires { (AcceptedAt first.now x) × (AcceptedAt second.now y) }
+pub fn joined_agree(first: Accepted, second: Accepted) -> bool
     ensures { result
-        ≡ agrees (consistent (entries_of (decode first.now) ++ entries_of (decode second.now))) }
+        ≡ agrees (consistent (entries_of (read_as first.entry) ++ entries_of (read_as second.entry))) }
 {
-    if x.count == 0 {
+    let x = first.extent;
+    let y = second.extent;
+    if x.count == 0 || y.count == 0 {
         return true;
     }
-    if y.count == 0 {
-        return true;
-    }
-    match entry_at(first, Cursor { at: x.at }, 0) {
-        EntryRead::Refused(_) => true,
-        EntryRead::Entry(v) => match entry_at(second, Cursor { at: y.at }, 0) {
-            EntryRead::Refused(_) => true,
-            EntryRead::Entry(w) => spans_agree(first, v, second, w),
-        },
-    }
+    let v = entry_at(first.image, Cursor { at: x.at }, 0).unwrap();
+    let w = entry_at(second.image, Cursor { at: y.at }, 0).unwrap();
+    spans_agree(first.image, v, second.image, w)
 }

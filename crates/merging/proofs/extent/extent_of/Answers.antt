@@ -5,8 +5,8 @@ use Rattle.merging.proofs.extent.extent_of.Goals as goal
 
 pub number_at-n-requires : goal.number_at-n-requires
 number_at-n-requires c =
-    start-there c.args.image.now c.args.count c.args.end c.requires
+    start-there c.args.image.now c.args.read.entries c.args.read.end c.requires
 
 pub returns : goal.returns
 returns c =
-    record { accepted = c.requires; start = ap (λ (n : ℕ). 14 + n) (c.number_at-n.ensures ∙ start-read c.args.image.now c.args.count c.args.end c.requires) }
+    record { accepted = c.requires; start = ap (λ (n : ℕ). 14 + n) (c.number_at-n.ensures ∙ start-read c.args.image.now c.args.read.entries c.args.read.end c.requires) }

@@ -1,39 +1,28 @@
-use Prim.Native.Nat.{◌+◌, ◌≤◌}
-use mathlib.Core.Path.{◌≡◌, ◌∙◌}
+use Prim.Native.Nat.{◌+◌, ◌-◌, ◌≤◌}
+use mathlib.Core.Path.{◌≡◌, sym, ◌∙◌}
 use native.Mathlib.Omega.{arith}
-use lib.ListN.{length, length-set}
+use lib.ListN.{length}
+use lib.Seq.{length-take-le}
 use Rattle.table.specs.Decode.{decode, name_of}
-use Rattle.merging.proofs.HeadLaws.{begins-at, head-written}
+use Rattle.merging.proofs.HeadLaws.{Begins, begins-at, head-written}
 use Rattle.merging.proofs.head.put_head.Goals as goal
 
-pub copy_part-requires : goal.copy_part-requires
-copy_part-requires c =
-    let w = begins-at c.args.first.now (λ i. omega (arith, c.type_inv.first i)) c.args.x c.requires.0 in
-    let r : 14 + length (name_of (decode c.args.first.now)) ≤ length c.args.first.now = w.room in
-    let e : c.args.x.at ≡ 14 + length (name_of (decode c.args.first.now)) = c.requires.0.start in
-    let o : c.args.x.at ≤ length c.args.target.now = c.requires.1 in
-    (omega arith, omega arith, omega arith)
+pub slice_bounds-copy_from_slice-end-3 : goal.slice_bounds-copy_from_slice-end-3
+slice_bounds-copy_from_slice-end-3 c =
+    let w : Begins c.args.first.image.now (name_of (decode c.args.first.image.now)) = begins-at _ c.args.first.bytes _ c.args.first.placed in
+    let room : 14 + length (name_of (decode c.args.first.image.now)) ≤ length c.args.first.image.now = w.room in
+    let start : c.args.first.extent.at ≡ 14 + length (name_of (decode c.args.first.image.now)) = c.args.first.placed.start in
+    sym (length-take-le (c.args.first.extent.at - 4) c.args.first.image.now (omega arith))
 
-pub bounds-target-5 : goal.bounds-target-5
-bounds-target-5 c =
-    let k : length c.copy_part.new.into ≡ length c.args.target.now = c.copy_part.auto.into in
-    let e : c.args.x.at ≡ 14 + length (name_of (decode c.args.first.now)) = c.requires.0.start in
-    let o : c.args.x.at ≤ length c.args.target.now = c.requires.1 in
-    simp length-set (omega arith)
-
-pub put_u32-requires : goal.put_u32-requires
-put_u32-requires c =
-    let k : length c.copy_part.new.into ≡ length c.args.target.now = c.copy_part.auto.into in
-    let e : c.args.x.at ≡ 14 + length (name_of (decode c.args.first.now)) = c.requires.0.start in
-    let o : c.args.x.at ≤ length c.args.target.now = c.requires.1 in
-    simp length-set (omega arith)
-
-pub shape_of-target : goal.shape_of-target
-shape_of-target c =
-    let k : length c.copy_part.new.into ≡ length c.args.target.now = c.copy_part.auto.into in
-    c.put_u32.auto.target ∙ simp length-set k
+pub copy_from_slice-requires : goal.copy_from_slice-requires
+copy_from_slice-requires c =
+    let w : Begins c.args.first.image.now (name_of (decode c.args.first.image.now)) = begins-at _ c.args.first.bytes _ c.args.first.placed in
+    let room : 14 + length (name_of (decode c.args.first.image.now)) ≤ length c.args.first.image.now = w.room in
+    let start : c.args.first.extent.at ≡ 14 + length (name_of (decode c.args.first.image.now)) = c.args.first.placed.start in
+    length-take-le (c.args.first.extent.at - 4) c.args.target.now (omega arith)
+    ∙ sym (length-take-le (c.args.first.extent.at - 4) c.args.first.image.now (omega arith))
 
 pub returns : goal.returns
 returns c =
-    let w = begins-at c.args.first.now (λ i. omega (arith, c.type_inv.first i)) c.args.x c.requires.0 in
-    head-written c.args.first.now (name_of (decode c.args.first.now)) c.args.target.now c.args.x.at c.args.count w c.requires.0.start c.requires.1 c.copy_part.new.into c.put_u32.new.target c.copy_part.ensures c.put_u32.ensures
+    head-written _ _ _ _ _ (begins-at _ c.args.first.bytes _ c.args.first.placed) c.args.first.placed.start c.requires _ _
+    c.copy_from_slice.ensures.after (c.copy_from_slice-2.ensures.after ∙ c.to_le_bytes.ensures)

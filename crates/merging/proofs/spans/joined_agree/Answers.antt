@@ -1,37 +1,27 @@
 use mathlib.Core.Path.{ap, sym, ◌∙◌}
-use native.Mathlib.Omega.{arith}
 use Rattle.table.specs.Answer.{entry_parsed}
-use Rattle.merging.proofs.ImageLaws.{holds}
+use Rattle.merging.proofs.ImageLaws.{holds-of}
 use Rattle.merging.proofs.JoinedLaws.{no-first, no_second, first_read, second-read, both-asked}
+use Rattle.merging.proofs.SkipLaws.{never-refused}
 use Rattle.merging.proofs.spans.joined_agree.Goals as goal
+use Rattle.merging.proofs.spans.joined_agree.Goals.{then-x-eq0-via-then-x-eq0, then-x-eq0-via-else-x-eq0+then-y-eq0}
 
 pub returns-then-x-eq0 : goal.returns-then-x-eq0
 returns-then-x-eq0 c =
-    let p = holds c.args.first.now (λ i. omega (arith, c.type_inv.first i)) c.args.x c.requires.0 in
-    let q = holds c.args.second.now (λ i. omega (arith, c.type_inv.second i)) c.args.y c.requires.1 in
-    no-first c.args.first.now c.args.second.now c.args.x c.args.y p q c.if-x-eq0.true
+    elim c.then-x-eq0.branch [
+      | then-x-eq0-via-then-x-eq0 w ↦ no-first _ _ _ _ (holds-of c.args.first) (holds-of c.args.second) w.if-x-eq0.true
+      | then-x-eq0-via-else-x-eq0+then-y-eq0 w ↦ no_second _ _ _ _ (holds-of c.args.first) (holds-of c.args.second) w.if-y-eq0.true
+    ]
 
-pub returns-then-y-eq0 : goal.returns-then-y-eq0
-returns-then-y-eq0 c =
-    let p = holds c.args.first.now (λ i. omega (arith, c.type_inv.first i)) c.args.x c.requires.0 in
-    let q = holds c.args.second.now (λ i. omega (arith, c.type_inv.second i)) c.args.y c.requires.1 in
-    no_second c.args.first.now c.args.second.now c.args.x c.args.y p q c.if-y-eq0.true
+pub unwrap-v-requires : goal.unwrap-v-requires
+unwrap-v-requires c =
+    never-refused _ (λ e h. first_read _ _ _ _ (holds-of c.args.first) (holds-of c.args.second) _ c.if-x-eq0.false (sym c.entry_at.ensures.means ∙ ap (entry_parsed _) h))
 
-pub returns-in-Refused : goal.returns-in-Refused
-returns-in-Refused c =
-    let p = holds c.args.first.now (λ i. omega (arith, c.type_inv.first i)) c.args.x c.requires.0 in
-    let q = holds c.args.second.now (λ i. omega (arith, c.type_inv.second i)) c.args.y c.requires.1 in
-    absurd (first_read c.args.first.now c.args.second.now c.args.x c.args.y p q _ c.if-x-eq0.false (sym c.entry_at.ensures.means ∙ ap (entry_parsed _) c.in-Refused.is))
+pub unwrap-w-requires : goal.unwrap-w-requires
+unwrap-w-requires c =
+    never-refused _ (λ e h. second-read _ _ _ _ (holds-of c.args.first) (holds-of c.args.second) _ c.if-y-eq0.false (sym c.entry_at-2.ensures.means ∙ ap (entry_parsed _) h))
 
-pub returns-in-Refused-entry_at : goal.returns-in-Refused-entry_at
-returns-in-Refused-entry_at c =
-    let p = holds c.args.first.now (λ i. omega (arith, c.type_inv.first i)) c.args.x c.requires.0 in
-    let q = holds c.args.second.now (λ i. omega (arith, c.type_inv.second i)) c.args.y c.requires.1 in
-    absurd (second-read c.args.first.now c.args.second.now c.args.x c.args.y p q _ c.if-y-eq0.false (sym c.entry_at-in-Entry.ensures.means ∙ ap (entry_parsed _) c.in-Refused-entry_at.is))
-
-pub returns-in-Entry-entry_at : goal.returns-in-Entry-entry_at
-returns-in-Entry-entry_at c =
-    let p = holds c.args.first.now (λ i. omega (arith, c.type_inv.first i)) c.args.x c.requires.0 in
-    let q = holds c.args.second.now (λ i. omega (arith, c.type_inv.second i)) c.args.y c.requires.1 in
+pub returns : goal.returns
+returns c =
     c.spans_agree.ensures
-    ∙ both-asked c.args.first.now c.args.second.now c.args.x c.args.y p q _ _ _ _ c.if-x-eq0.false c.if-y-eq0.false (sym c.entry_at.ensures.means ∙ ap (entry_parsed _) c.in-Entry.is) (sym c.entry_at-in-Entry.ensures.means ∙ ap (entry_parsed _) c.in-Entry-entry_at.is)
+    ∙ both-asked _ _ _ _ (holds-of c.args.first) (holds-of c.args.second) _ _ _ _ c.if-x-eq0.false c.if-y-eq0.false (sym c.entry_at.ensures.means ∙ ap (entry_parsed _) c.unwrap-v.ensures) (sym c.entry_at-2.ensures.means ∙ ap (entry_parsed _) c.unwrap-w.ensures)
