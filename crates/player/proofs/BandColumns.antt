@@ -21,6 +21,10 @@ use Rattle.player.specs.inner.Columns.{state_of_columns, coeffs_of_rows, Memorie
 use Rattle.player.specs.inner.Terms.{noise_added}
 use Rattle.filters.specs.declared.biquad.BiquadState.{BiquadState}
 use Rattle.filters.specs.declared.biquad.Tick.{Tick}
+use Rattle.player.specs.inner.Tuning.{constants_at}
+use Rattle.player.specs.declared.constants.Constants.{Constants}
+use Rattle.player.specs.declared.noise.bands.BandColumns.{BandColumns}
+use Rattle.player.specs.declared.tuning.NoiseTuning.{NoiseTuning}
 use Rattle.filters.specs.declared.rng.Rng.{Rng}
 use Rattle.voice.specs.declared.voice.Voice.{Voice}
 use Rattle.voice.proofs.Loops.{every-at}
@@ -163,16 +167,19 @@ module _ (v : Voice) (K : LiveFit v.set) where
     filtered-at l h = ap (λ (t : Tick). t.y) (ticked-at l h)
 
   -- ---- the sum of a sample, where the columns are those of f0 and g
-  module _ (r : Rng) (ms : List Float) (f0 : Float) (g : List Float) (noise_gain : Float) (rows makeup ys : List Float) (eg : noise_gain ≡ value_between (noise_gains v) (sides_at v f0))
-      (R : FilledRows rows (λ q l. noise_row v.noise (sides_at v f0) q (band l)) (cond (eqb v.set.blend 0) 1 v.set.k) v.set.live_count)
-      (M : Filled makeup (λ l. get_or (compensations v) (band l) nan) v.set.live_count)
-      (Y : (l : ℕ) → l < v.set.live_count → get_or ys l nan ≡ (tick_at v (noise_in r) ms (band l)).y) where
-    term_is : (l : ℕ) → l < v.set.live_count → (y : Float) → noise_added v.set.blend v.set.k rows g noise_gain makeup ys l y ≡ noise_term v f0 g (band l) y (tick_at v (noise_in r) ms (band l)).y
+  module _ (r : Rng) (ms : List Float) (f0 : Float) (g : List Float) (t : NoiseTuning) (bands : BandColumns) (eg : t.noise_gain ≡ value_between (noise_gains v) (sides_at v f0))
+      (R : FilledRows t.rows (λ q l. noise_row v.noise (sides_at v f0) q (band l)) (cond (eqb v.set.blend 0) 1 v.set.k) v.set.live_count)
+      (M : Filled bands.makeup (λ l. get_or (compensations v) (band l) nan) v.set.live_count)
+      (Y : (l : ℕ) → l < v.set.live_count → get_or bands.ys l nan ≡ (tick_at v (noise_in r) ms (band l)).y) where
+    abbrev x : Constants
+    x = constants_at v.set
+
+    term_is : (l : ℕ) → l < v.set.live_count → (y : Float) → noise_added x t g bands l y ≡ noise_term v f0 g (band l) y (tick_at v (noise_in r) ms (band l)).y
     term_is l h y =
-        rw (band-coeff-as v.set.blend v.set.k (λ q. get_or rows (q * 32 + l) nan) (λ q. noise_row v.noise (sides_at v f0) q (band l)) g (λ q a. R.at q l a h), eg, M.at l h, Y l h)
+        rw (band-coeff-as v.set.blend v.set.k (λ q. get_or t.rows (q * 32 + l) nan) (λ q. noise_row v.noise (sides_at v f0) q (band l)) g (λ q a. R.at q l a h), eg, M.at l h, Y l h)
         (noise-by-one v f0 g (band l) y (tick_at v (noise_in r) ms (band l)).y)
 
     -- LAW: what `noise_sum` ensures is the sample
-    pub sum-is-sample : (y z : Float) → z ≡ steps (λ l y. noise_added v.set.blend v.set.k rows g noise_gain makeup ys l y) y v.set.live_count → z ≡ noise_sum v f0 g r ms y
+    pub sum-is-sample : (y z : Float) → z ≡ steps (λ l y. noise_added x t g bands l y) y v.set.live_count → z ≡ noise_sum v f0 g r ms y
     unfolding noise_sum
     sum-is-sample y z e = e ∙ steps-as _ _ y v.set.live_count term_is

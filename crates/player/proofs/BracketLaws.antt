@@ -1,68 +1,58 @@
--- The search for a frequency's neighbours: a turn of it, and that the sides are entries.
-use mathlib.Core.Path.{◌≡◌, refl, sym, ap, ◌∙◌}
+-- The search for a frequency's neighbours, by the last pitch that is not above it.
+use Rattle.std.proofs.Common.{◌≡◌, ℕ, zero, suc, ◌+◌, ◌≤◌, ◌<◌, List, get_or, take, length, true, false, refl, ap, ◌∙◌, sym, arith, add-one}
+use Rattle.std.specs.Prelude.{Float}
+use Rattle.std.specs.Float.{nan}
+use Rattle.std.specs.Float.Ieee.{le}
+use lib.Seq.{get_or-take, length-take-le}
 use mathlib.Core.Logic.{⊎_elim}
-use mathlib.Core.List.{List}
-use mathlib.Core.Bool.{Bool, true, false, cond}
-use Prim.Native.Nat.{ℕ, zero, suc, ◌-◌, ◌≤◌, ◌<◌}
-use native.Mathlib.Numerals.{sub-one}
-use native.Mathlib.Nat.{eq-or-lt_of_le, le_of_eq, le_trans}
-use native.Mathlib.Omega.{arith}
-use lib.ListN.{get_or}
-use lib.Ieee.{Float, nan, le}
+use native.Mathlib.Nat.{eq-or-lt_of_le}
 use Rattle.player.specs.Share.{share_of}
 use Rattle.player.specs.Bracket.{not_above, neighbours}
+use Rattle.player.specs.inner.Ranges.{NoneNotAbove}
 use Rattle.player.specs.declared.pitch.bracket.Bracket.{Bracket}
 
--- a turn of the search, downwards
-pub not_above-down : (ps : List Float) (f : Float) (k : ℕ) → 0 < k → le (get_or ps (k - 1) nan) f ≡ false → not_above ps f k ≡ not_above ps f (k - 1)
-unfolding not_above
-not_above-down ps f zero l h = absurd (omega arith)
-not_above-down ps f (suc k) l h = let g : le (get_or ps k nan) f ≡ false = rw (sub-one (suc k)) at h in rw (sub-one (suc k), g)
+module _ (ps : List Float) (f : Float) where
+  -- from index i up to n no pitch is at or below f
+  AllAbove : ℕ → ℕ → Type 0
+  AllAbove i n = (k : ℕ) → i ≤ k → k < n → le (get_or ps k nan) f ≡ false
 
-pub not_above-here : (ps : List Float) (f : Float) (k : ℕ) → 0 < k → le (get_or ps (k - 1) nan) f ≡ true → not_above ps f k ≡ k
-unfolding not_above
-not_above-here ps f zero l h = absurd (omega arith)
-not_above-here ps f (suc k) l h = let g : le (get_or ps k nan) f ≡ true = rw (sub-one (suc k)) at h in rw g
+  none : (n : ℕ) → ((k : ℕ) → 0 ≤ k → k < n → le (get_or ps k nan) f ≡ false) → not_above ps f n ≡ 0
+  unfolding not_above
+  none zero h = refl
+  none (suc n) h = rw (h n (omega arith) (omega arith)) (none n (λ k a b. h k a (omega arith)))
 
-pub neighbours_at : (ps : List Float) (f : Float) (k : ℕ) → 0 < k → Bracket.Between (k - 1) k (share_of (get_or ps (k - 1) nan) f (get_or ps k nan)) ≡ neighbours ps f k
-unfolding neighbours
-neighbours_at ps f zero l = absurd (omega arith)
-neighbours_at ps f (suc k) l = rw (sub-one (suc k))
+  last-at : (n i : ℕ) → i < n → le (get_or ps i nan) f ≡ true → ((k : ℕ) → i + 1 ≤ k → k < n → le (get_or ps k nan) f ≡ false) → not_above ps f n ≡ suc i
+  unfolding not_above
+  last-at zero i l t h = absurd (omega arith)
+  last-at (suc n) i l t h =
+      ⊎_elim (λ (e : i ≡ n). let g : le (get_or ps n nan) f ≡ true = rw e at t in rw g (ap suc (sym e)))
+      (λ (q : i < n). rw (h n (omega arith) (omega arith)) (last-at n i q t (λ k a b. h k a (omega arith)))) (eq-or-lt_of_le (omega arith))
 
--- what the search finds is not above f0
-pub not_above-le : (ps : List Float) (f : Float) (n k : ℕ) → not_above ps f n ≡ suc k → le (get_or ps k nan) f ≡ true
-unfolding not_above
-not_above-le ps f zero k h = absurd (omega arith)
-not_above-le ps f (suc n) k h = go (le (get_or ps n nan) f) refl (not_above-le ps f n k) h
-  where
-    same : (n k : ℕ) → suc n ≡ suc k → n ≡ k
-    same n k e = omega arith
+  -- what is known of the first n pitches by themselves
+  module _ (n : ℕ) (L : n ≤ length ps) where
+    within : (i : ℕ) → NoneNotAbove (take n ps) f i → (k : ℕ) → i ≤ k → k < n → le (get_or ps k nan) f ≡ false
+    within i N k a b = ap (λ (z : Float). le z f) (sym (get_or-take n ps k nan b)) ∙ N k a (rw (length-take-le n ps L) b)
 
-    go : (b : Bool) → le (get_or ps n nan) f ≡ b → (not_above ps f n ≡ suc k → le (get_or ps k nan) f ≡ true) → cond b (suc n) (not_above ps f n) ≡ suc k → le (get_or ps k nan) f ≡ true
-    go true e r g = rw (← same n k g) e
-    go false e r g = r g
+    -- LAW: none of them is not above f
+    pub none-found : NoneNotAbove (take n ps) f 0 → Bracket.One 0 ≡ neighbours ps f (not_above ps f n)
+    unfolding neighbours
+    none-found N = rw (none n (within 0 N))
 
--- and it is one of the first n
-pub not_above-in : (ps : List Float) (f : Float) (n : ℕ) → not_above ps f n ≤ n
-unfolding not_above
-not_above-in ps f zero = omega arith
-not_above-in ps f (suc n) = go (le (get_or ps n nan) f) (not_above ps f n) (not_above-in ps f n)
-  where
-    go : (b : Bool) (a : ℕ) → a ≤ n → cond b (suc n) a ≤ suc n
-    go true a h = omega arith
-    go false a h = omega arith
+    module _ (i : ℕ) (l : i < length (take n ps)) (t : le (get_or (take n ps) i nan) f ≡ true) (N : NoneNotAbove (take n ps) f (i + 1)) where
+      pub below : i < n
+      below = rw (length-take-le n ps L) at l
 
--- and those of the first n from there on are above f0, or not to be compared
-pub not_above-rest : (ps : List Float) (f : Float) (n k : ℕ) → not_above ps f n ≤ k → k < n → le (get_or ps k nan) f ≡ false
-unfolding not_above
-not_above-rest ps f zero k h l = absurd (omega arith)
-not_above-rest ps f (suc n) k h l = go (le (get_or ps n nan) f) refl (not_above-rest ps f n k) h
-  where
-    go : (b : Bool) → le (get_or ps n nan) f ≡ b → (not_above ps f n ≤ k → k < n → le (get_or ps k nan) f ≡ false) → cond b (suc n) (not_above ps f n) ≤ k → le (get_or ps k nan) f ≡ false
-    go true e r g = absurd (omega arith)
-    go false e r g = ⊎_elim (λ (q : k ≡ n). rw q e) (λ (q : k < n). r g q) (eq-or-lt_of_le (omega arith))
+      -- the last that is not above f
+      pub found-le : le (get_or ps i nan) f ≡ true
+      found-le = ap (λ (z : Float). le z f) (sym (get_or-take n ps i nan below)) ∙ t
 
--- the entry after it, up to the last, is not at or below f0
-pub above-it : (ps : List Float) (f : Float) (last k : ℕ) → k ≡ not_above ps f last → le (get_or ps last nan) f ≡ false → le (get_or ps k nan) f ≡ false
-above-it ps f last k e h =
-    ⊎_elim (λ (q : k ≡ last). ap (λ (z : ℕ). le (get_or ps z nan) f) q ∙ h) (λ (q : k < last). not_above-rest ps f last k (le_of_eq (sym e)) q) (eq-or-lt_of_le (le_trans (le_of_eq e) (not_above-in ps f last)))
+      -- and the one after it, up to the next, is above it
+      pub next-above : le (get_or ps n nan) f ≡ false → le (get_or ps (i + 1) nan) f ≡ false
+      next-above h =
+          ⊎_elim (λ (e : i + 1 ≡ n). ap (λ (z : ℕ). le (get_or ps z nan) f) e ∙ h) (λ (q : i + 1 < n). within (i + 1) N (i + 1) (omega arith) q)
+          (eq-or-lt_of_le (let b = below in omega arith))
+
+      -- LAW: it and the one after it are the neighbours
+      pub found : Bracket.Between i (i + 1) (share_of (get_or ps i nan) f (get_or ps (i + 1) nan)) ≡ neighbours ps f (not_above ps f n)
+      unfolding neighbours
+      found = rw (last-at n i below found-le (within (i + 1) N), add-one i)

@@ -1,20 +1,26 @@
 -- A channel's two passes put together: the state after each sample, and what is audible; and the voices of each pass beside the whole one.
 use mathlib.Core.Path.{◌≡◌, refl, sym, ap, ◌∙◌}
-use mathlib.Core.List.{List}
-use mathlib.Core.Bool.{true, false}
+use mathlib.Core.List.{List, [], ◌∷◌, ◌++◌}
+use native.Mathlib.Numerals.{add-one}
+use Rattle.std.proofs.lemmas.List.{replicate_more}
+use mathlib.Core.Bool.{Bool, true, false, cond}
 use Prim.Native.Nat.{ℕ, zero, suc, ◌<◌}
-use lib.ListN.{length, get_or}
+use lib.ListN.{length, get_or, replicate}
 use lib.Dec.{eqb}
 use lib.Ieee.{Float, nan}
 use Rattle.float.specs.F32.{quotient}
 use Rattle.voice.specs.Lists.{map_to, up_to, steps}
-use Rattle.voice.specs.Input.{Call, part_of, frequency_of, gains_of, frequency_at, gains_at, cleaned}
+use Rattle.voice.specs.Input.{Call, frequency_at, gains_at, cleaned}
 use Rattle.voice.specs.Voice.{voice_of, state_of}
+use Rattle.player.specs.Bands.{ticking_set, all_live}
+use Rattle.voice.specs.declared.voice.Setting.{Setting}
 use Rattle.player.specs.Sound.{sides_at, moved_phases, moved_memories, moved_rng, partial_term, partial_sum, noise_term, noise_sum, sound, moved}
 use Rattle.player.specs.Block.{state_at, channel_out}
-use Rattle.player.specs.inner.Passes.{partials_voice, noise_voice, phases_at, rng_at, memories_at, partials_out, noisy, noise_out, PartialsPlayed, NoisePlayed, ChannelPlayed}
+use Rattle.player.specs.inner.Passes.{frequency_in, gains_in, PartsOf, toned, partials_of, noise_of}
+use Rattle.player.specs.inner.Passes.{phases_at, rng_at, memories_at, partials_out, noisy, noise_out, PartialsPlayed, NoisePlayed, ChannelPlayed}
 use Rattle.filters.specs.declared.rng.Rng.{Rng}
-use Rattle.voice.specs.declared.voice.Setting.{Setting}
+use Rattle.voice.specs.declared.inputs.Inputs.{Inputs}
+use Rattle.player.specs.declared.timbre.Timbre.{Timbre}
 use Rattle.voice.specs.declared.voice.State.{State}
 use Rattle.voice.specs.declared.voice.Voice.{Voice}
 use Rattle.voice.proofs.Loops.{steps-same, length-up_to, up_to-at, up_to-as, up_to-same}
@@ -65,71 +71,109 @@ module _ (v : Voice) (freq : ℕ → Float) (g : ℕ → List Float) where
   unfolding partials_out partial_sum steps
   no-partials e n = rw e
 
+-- a slice that is filled with 0 is silence
+pub silence-is : (n : ℕ) (ys : List Float) → ys ≡ replicate n (quotient 0 1) → ys ≡ up_to (λ i. quotient 0 1) n
+unfolding up_to
+silence-is n ys e = e ∙ go n
+  where
+    go : (n : ℕ) → replicate n (quotient 0 1) ≡ up_to (λ i. quotient 0 1) n
+    go zero = refl
+    go (suc n) = ap (λ (k : ℕ). replicate k (quotient 0 1)) (sym (add-one n)) ∙ sym (replicate_more n (quotient 0 1)) ∙ ap (λ (z : List Float). z ++ (quotient 0 1 ∷ [])) (go n)
+
 -- ---- the voices of the two passes
-module _ (set : Setting) (lists partials noise phases memories : List Float) (rng : Rng) (freq : ℕ → Float) (g : ℕ → List Float) (n : ℕ) where
-  abbrev whole : Voice
-  whole = voice_of set lists partials noise (state_of phases memories rng)
+-- neither the partials nor the number of entries ask which bands tick
+module _ (s : Setting) (lists partials noise : List Float) (st : State) (freq : ℕ → Float) (g : ℕ → List Float) (n : ℕ) where
+  abbrev with_live : Setting → Voice
+  with_live s = voice_of s lists partials noise st
 
-  abbrev of_partials : Voice
-  of_partials = partials_voice set lists partials phases
-
-  abbrev noisal : Voice
-  noisal = noise_voice set lists noise memories rng
-
-  of_partials-phases : phases_at of_partials freq n ≡ phases_at whole freq n
+  ticking-phases : (b : Bool) → phases_at (with_live s) freq n ≡ phases_at (with_live (cond b (all_live s) s)) freq n
   unfolding phases_at moved_phases sides_at
-  of_partials-phases = refl
+  ticking-phases true = refl
+  ticking-phases false = refl
 
-  of_partials-out : partials_out of_partials freq g n ≡ partials_out whole freq g n
+  ticking-out : (b : Bool) → partials_out (with_live s) freq g n ≡ partials_out (with_live (cond b (all_live s) s)) freq g n
   unfolding partials_out phases_at moved_phases partial_sum partial_term sides_at
-  of_partials-out = refl
+  ticking-out true = refl
+  ticking-out false = refl
 
-  noisal-rng : rng_at noisal n ≡ rng_at whole n
+pub ticking-count : (s : Setting) → (ticking_set s).count ≡ s.count
+ticking-count s = go (eqb s.blend 0)
+  where
+    go : (b : Bool) → (cond b (all_live s) s).count ≡ s.count
+    go true = refl
+    go false = refl
+
+module _ (t : Timbre) (s : State) (freq : ℕ → Float) (g : ℕ → List Float) (n : ℕ) where
+  abbrev v : Voice
+  v = toned t s
+
+  of_partials-phases : phases_at (partials_of t s.phases) freq n ≡ phases_at v freq n
+  unfolding phases_at moved_phases sides_at
+  of_partials-phases = ticking-phases t.set.now t.lists.now t.partials.now t.noise.now s freq g n (eqb t.set.now.blend 0)
+
+  of_partials-out : partials_out (partials_of t s.phases) freq g n ≡ partials_out v freq g n
+  unfolding partials_out phases_at moved_phases partial_sum partial_term sides_at
+  of_partials-out = ticking-out t.set.now t.lists.now t.partials.now t.noise.now s freq g n (eqb t.set.now.blend 0)
+
+  counted : (b : Bool) → eqb t.set.now.count 0 ≡ b → eqb v.set.count 0 ≡ b
+  counted b e = rw (ticking-count t.set.now) e
+
+  of_noise-rng : rng_at (noise_of t s.memories s.rng) n ≡ rng_at v n
   unfolding rng_at moved_rng
-  noisal-rng = refl
+  of_noise-rng = refl
 
-  noisal-memories : memories_at noisal n ≡ memories_at whole n
+  of_noise-memories : memories_at (noise_of t s.memories s.rng) n ≡ memories_at v n
   unfolding memories_at moved_memories rng_at moved_rng
-  noisal-memories = refl
+  of_noise-memories = refl
 
-  noisal-out : (ys : List Float) → noise_out noisal freq g ys n ≡ noise_out whole freq g ys n
+  of_noise-out : (ys : List Float) → noise_out (noise_of t s.memories s.rng) freq g ys n ≡ noise_out v freq g ys n
   unfolding noise_out noisy noise_sum noise_term sides_at memories_at moved_memories rng_at moved_rng
-  noisal-out ys = refl
+  of_noise-out ys = refl
 
-  abbrev Ends : Rng → List Float → List Float → List Float → Type 0
-  Ends r ps ms ys = ChannelPlayed whole freq g n r ps ms ys
+  abbrev Ends : State → List Float → Type 0
+  Ends end ys = ChannelPlayed v freq g n end ys
 
   -- LAW: no entry: nothing moves, and it is silent
-  pub ends-still : eqb set.count 0 ≡ true → (ys : List Float) → ys ≡ up_to (λ i. quotient 0 1) n → Ends rng phases memories ys
-  ends-still C ys e = record { ends = still whole freq g n C; written = e ∙ silent whole freq g n C }
+  pub ends-still : eqb t.set.now.count 0 ≡ true → (ys : List Float) → ys ≡ up_to (λ i. quotient 0 1) n → Ends s ys
+  ends-still C ys e =
+      let D = counted true C in
+      record { ends = still v freq g n D; written = e ∙ silent v freq g n D }
 
   -- the first pass writes every sample
-  pub sized : (ys : List Float) → ys ≡ partials_out of_partials freq g n → length ys ≡ n
-  sized ys e = ap (λ (z : List Float). length z) e ∙ length-partials of_partials freq g n
+  sized : (ys : List Float) → ys ≡ partials_out (partials_of t s.phases) freq g n → length ys ≡ n
+  sized ys e = ap (λ (z : List Float). length z) e ∙ length-partials (partials_of t s.phases) freq g n
 
   -- the state that both passes leave
-  left : eqb set.count 0 ≡ false → (r : Rng) (ps ms : List Float) → ps ≡ phases_at whole freq n → ms ≡ memories_at whole n → r ≡ rng_at whole n → state_of ps ms r ≡ state_at whole freq n
-  left N r ps ms ep em er = rw (ep, em, er) (sym (state-is whole freq g N n))
+  left : eqb v.set.count 0 ≡ false → (r : Rng) (ps ms : List Float) → ps ≡ phases_at v freq n → ms ≡ memories_at v n → r ≡ rng_at v n → state_of ps ms r ≡ state_at v freq n
+  left N r ps ms ep em er = rw (ep, em, er) (sym (state-is v freq g N n))
 
   -- LAW: no live band: the first pass is all
-  pub ends-partials : eqb set.count 0 ≡ false → set.live_count ≡ 0 → (ps ys : List Float) → PartialsPlayed of_partials freq g n ps ys → Ends rng ps memories ys
-  ends-partials N L ps ys P = record {
-    ends = left N rng ps memories (P.moves ∙ of_partials-phases) (same-memories whole freq g L n) (same-rng whole freq g L n);
-    written = same_out whole freq g L ys n (sized ys P.written) ∙ ap (λ (z : List Float). noise_out whole freq g z n) (P.written ∙ of_partials-out) ∙ out-is whole freq g N n;
-  }
+  pub ends-partials : eqb t.set.now.count 0 ≡ false → v.set.live_count ≡ 0 → (ps ys : List Float) → PartialsPlayed (partials_of t s.phases) freq g n ps ys → Ends (state_of ps s.memories s.rng) ys
+  ends-partials C L ps ys P =
+      let N = counted false C in
+      record {
+        ends = left N s.rng ps s.memories (P.moves ∙ of_partials-phases) (same-memories v freq g L n) (same-rng v freq g L n);
+        written =
+            same_out v freq g L ys n (sized ys P.written) ∙ ap (λ (z : List Float). noise_out v freq g z n) (P.written ∙ of_partials-out) ∙ out-is v freq g N n;
+      }
 
   -- LAW: both passes
-  pub ends-noisy : eqb set.count 0 ≡ false → (r : Rng) (ps ms ys zs : List Float) → PartialsPlayed of_partials freq g n ps ys → NoisePlayed noisal freq g ys (length ys) r ms zs → Ends r ps ms zs
-  ends-noisy N r ps ms ys zs P Q =
+  pub ends-noisy : eqb t.set.now.count 0 ≡ false → (r : Rng) (ps ms ys zs : List Float) → PartialsPlayed (partials_of t s.phases) freq g n ps ys
+      → NoisePlayed (noise_of t s.memories s.rng) freq g ys (length ys) r ms zs → Ends (state_of ps ms r) zs
+  ends-noisy C r ps ms ys zs P Q =
+      let N = counted false C in
       let e = sized ys P.written in
+      let w = noise_of t s.memories s.rng in
       record {
-        ends = left N r ps ms (P.moves ∙ of_partials-phases) (Q.rings ∙ ap (λ (k : ℕ). memories_at noisal k) e ∙ noisal-memories) (Q.steps_on ∙ ap (λ (k : ℕ). rng_at noisal k) e ∙ noisal-rng);
-        written = Q.written ∙ ap (λ (k : ℕ). noise_out noisal freq g ys k) e ∙ noisal-out ys ∙ ap (λ (z : List Float). noise_out whole freq g z n) (P.written ∙ of_partials-out) ∙ out-is whole freq g N n;
+        ends =
+            left N r ps ms (P.moves ∙ of_partials-phases) (Q.rings ∙ ap (λ (k : ℕ). memories_at w k) e ∙ of_noise-memories)
+            (Q.steps_on ∙ ap (λ (k : ℕ). rng_at w k) e ∙ of_noise-rng);
+        written =
+            Q.written ∙ ap (λ (k : ℕ). noise_out w freq g ys k) e ∙ of_noise-out ys
+            ∙ ap (λ (z : List Float). noise_out v freq g z n) (P.written ∙ of_partials-out) ∙ out-is v freq g N n;
       }
 
 -- LAW: a channel that reads the parts of a call's inputs is the call's
-pub channel-of-call : (v : Voice) (c : Call) (ch : ℕ) (f p0 p1 p2 p3 : List Float) (n : ℕ) (r : Rng) (ps ms ys : List Float)
-    → f ≡ part_of c.shape.freq c.freq c.shape.samples ch → p0 ≡ part_of c.shape.g0 c.g0 c.shape.samples ch → p1 ≡ part_of c.shape.g1 c.g1 c.shape.samples ch
-    → p2 ≡ part_of c.shape.g2 c.g2 c.shape.samples ch → p3 ≡ part_of c.shape.g3 c.g3 c.shape.samples ch → n ≡ c.shape.samples
-    → ChannelPlayed v (frequency_of f) (gains_of p0 p1 p2 p3) n r ps ms ys → ChannelPlayed v (frequency_at c ch) (gains_at c ch) c.shape.samples r ps ms ys
-channel-of-call v c ch f p0 p1 p2 p3 n r ps ms ys ef e0 e1 e2 e3 en P = rw (ef, e0, e1, e2, e3, en) at P
+pub channel-of-call : (v : Voice) (c : Call) (ch : ℕ) (parts : Inputs) (n : ℕ) (end : State) (ys : List Float) → PartsOf c ch parts → n ≡ c.shape.samples
+    → ChannelPlayed v (frequency_in parts) (gains_in parts) n end ys → ChannelPlayed v (frequency_at c ch) (gains_at c ch) c.shape.samples end ys
+channel-of-call v c ch parts n end ys R en P = rw (R.freq, R.g0, R.g1, R.g2, R.g3, en) at P

@@ -1,12 +1,12 @@
 -- The laws of columns: what a turn of a loop over a column leaves, and what the places that are filled say of a sum.
 use mathlib.Core.Path.{◌≡◌, refl, sym, ap, ◌∙◌}
 use mathlib.Core.Logic.{⊎_elim}
-use mathlib.Core.List.{List}
+use mathlib.Core.List.{List, ◌++◌}
 use mathlib.Core.Bool.{Bool, true, false, cond}
 use Prim.Native.Nat.{ℕ, zero, suc, ◌+◌, ◌*◌, ◌≤◌, ◌<◌}
 use native.Mathlib.Nat.{eq-or-lt_of_le}
 use native.Mathlib.Omega.{arith}
-use lib.ListN.{length, get_or, set}
+use lib.ListN.{length, get_or, set, replicate, get_or-append, length-replicate, get_or-replicate}
 use lib.Seq.{get_or-set_same, get_or-set_other, lt-length-set}
 use lib.Dec.{T}
 use lib.Ieee.{Float, nan, binary32, fits, eq, ne}
@@ -50,6 +50,14 @@ module _ (f : ℕ → Float) where
 
   pub filled-as : (xs : List Float) (g : ℕ → Float) (n : ℕ) → ((i : ℕ) → i < n → f i ≡ g i) → Filled xs f n → Filled xs g n
   filled-as xs g n e F = record { at = λ i h. F.at i h ∙ e i h }
+
+-- ---- a column whose first n places are filled with one number
+pub filled-with : (ys rest : List Float) (x : Float) (k n : ℕ) → n ≡ k → ys ≡ replicate k x → Filled (ys ++ rest) (λ i. x) n
+filled-with ys rest x k n q e = record {
+  at = λ i h.
+      let l : length ys ≡ k = ap (λ (z : List Float). length z) e ∙ length-replicate k x in
+      get_or-append ys rest nan i (omega arith) ∙ ap (λ (z : List Float). get_or z i nan) e ∙ get_or-replicate k i x nan (omega arith);
+}
 
 -- ---- a column that a loop changes in place: the places from i on are as they were
 pub record KeptFrom (xs ys : List Float) (i : ℕ) : Type 0 where

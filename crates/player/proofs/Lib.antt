@@ -3,6 +3,7 @@ pub mod PhaseLaws
 pub mod ColumnLaws
 pub mod RangeLaws
 pub mod BracketLaws
+pub mod BandLaws
 pub mod SoundLaws
 pub mod TermLaws
 pub mod BandColumns
@@ -11,5 +12,5 @@ pub mod PartialLaws
 pub mod PartialsPass
 pub mod NoisePass
 pub mod ChannelLaws
+pub mod BlockLaws
 pub mod PlayLaws
-pub mod BandLaws

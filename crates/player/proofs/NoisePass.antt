@@ -1,7 +1,7 @@
 -- The pass over the live bands: from sample to sample the columns hold the memories of the definitions, and each sample is `noisy`'s.
 use mathlib.Core.Path.{◌≡◌, refl, sym, ap, ◌∙◌, subst}
 use mathlib.Core.List.{List, ◌++◌}
-use mathlib.Core.Bool.{true, cond}
+use mathlib.Core.Bool.{Bool, true, false, cond}
 use Prim.Native.Nat.{ℕ, ◌+◌, ◌<◌}
 use lib.ListN.{length, get_or, set, drop}
 use lib.Dec.{T, eqb}
@@ -10,19 +10,23 @@ use Rattle.float.specs.inner.Range.{Within}
 use Rattle.voice.specs.Lists.{up_to, steps}
 use Rattle.voice.specs.Input.{cleaned}
 use Rattle.filters.specs.Rng.{next_bipolar}
-use Rattle.voice.specs.Voice.{pitches, noise_gains, compensations}
-use Rattle.player.specs.inner.Tuning.{NoiseTuned}
+use Rattle.player.specs.inner.Tuning.{constants_at, entries_at}
+use Rattle.std.specs.Prelude.{Some, None}
 use Rattle.player.specs.Sound.{sides_at, noise_in, moved_memories, moved_rng}
-use Rattle.player.specs.inner.Passes.{LiveFit, rng_at, memories_at, noisy, noise_out}
-use Rattle.player.specs.inner.Columns.{Memories, Coeffs, Ticked, scattered, Filled}
+use Rattle.player.specs.Bands.{ticking_set, all_live}
+use Rattle.player.specs.inner.Passes.{LiveFit, LiveOf, rng_at, memories_at, noisy, noise_out}
+use Rattle.player.specs.inner.Columns.{LiveFits, Memories, Coeffs, Ticked, scattered}
+use Rattle.player.specs.inner.Bands.{Fixed, Gathered, Ticks}
+use Rattle.player.specs.declared.noise.bands.BandColumns.{BandColumns}
 use Rattle.player.specs.inner.Terms.{noise_added}
-use Rattle.player.specs.declared.constants.Constants.{Constants}
+use Rattle.player.specs.declared.bands.Live.{Live}
+use Rattle.voice.specs.declared.voice.Setting.{Setting}
 use Rattle.filters.specs.declared.rng.Bipolar.{Bipolar}
 use Rattle.filters.specs.declared.rng.Rng.{Rng}
 use Rattle.player.specs.declared.tuning.NoiseTuning.{NoiseTuning}
 use Rattle.voice.specs.declared.voice.Voice.{Voice}
 use Rattle.voice.proofs.Loops.{steps-again, up_to-read, up_to-again, up_to-full}
-use Rattle.player.proofs.PartialLaws.{NoiseTunedTo, noise-stays, untuned-none}
+use Rattle.player.proofs.PartialLaws.{NoiseTunedTo, noise-stays}
 use Rattle.player.proofs.BandColumns.{AgreeOff, agree_same, agree-moved, length-memories, memories-moved, filtered-at, scattered-is, sum-is-sample}
 
 pub rng-again : (v : Voice) (i : ℕ) (r s : Rng) → r ≡ rng_at v i → s ≡ moved_rng v r → s ≡ rng_at v (i + 1)
@@ -48,70 +52,89 @@ module _ (v : Voice) (freq : ℕ → Float) (g : ℕ → List Float) where
   unfolding noise_out
   noise-out-full i n l ls q h e = up_to-full (λ i. noisy v freq g i (get_or l i nan)) i n l ls q h e
 
-module _ (v : Voice) (x : Constants) where
-  -- before sample i the columns hold the state of the definitions, and are tuned to every frequency that compares equal to t's
-  pub record BandsAt (i : ℕ) (z1 z2 : List Float) (rng : Rng) (rows : List Float) (t : NoiseTuning) : Type 0 where
-    pub rng-is : rng ≡ rng_at v i
-    pub memories-are : Memories z1 z2 (memories_at v i) v.set.live v.set.live_count
-    pub long : length (memories_at v i) ≡ 32
-    pub off : AgreeOff (memories_at v i) v.state.memories v.set.live v.set.live_count
-    pub tuned : (f : Float) → T (fits binary32 f) → Within 20000 1 f → eq f t.f0 ≡ true → NoiseTunedTo v x f rows t
+-- ---- the bands that tick, as the pass is handed them
+pub live-fits : (s : Setting) (live : Live) → LiveOf s live → LiveFit (ticking_set s) → LiveFits live
+live-fits s live L K = record { most = rw L.count K.most; inside = rw (L.count, L.bands) K.inside }
 
-module _ (v : Voice) (K : LiveFit v.set) (x : Constants) (X : (x.blend ≡ v.set.blend) × (x.k ≡ v.set.k)) (L : length v.state.memories ≡ 32) where
-  pub bands-at-first : (z1 z2 rows : List Float) (t : NoiseTuning) → Memories z1 z2 v.state.memories v.set.live v.set.live_count → t.f0 ≡ nan → BandsAt v x 0 z1 z2 v.state.rng rows t
+-- what stays through a channel does not ask which bands tick
+pub ticking-constants : (s : Setting) → constants_at (ticking_set s) ≡ constants_at s
+ticking-constants s = go (eqb s.blend 0)
+  where
+    go : (b : Bool) → constants_at (cond b (all_live s) s) ≡ constants_at s
+    go true = refl
+    go false = refl
+
+pub ticking-entries : (s : Setting) (lists : List Float) → entries_at (ticking_set s) lists ≡ entries_at s lists
+ticking-entries s lists = go (eqb s.blend 0)
+  where
+    go : (b : Bool) → entries_at (cond b (all_live s) s) lists ≡ entries_at s lists
+    go true = refl
+    go false = refl
+
+-- before sample i the columns hold the state of the definitions, and are tuned to every frequency that compares equal to the one kept
+pub record BandsAt (v : Voice) (live : Live) (i : ℕ) (bands : BandColumns) (rng : Rng) (t : NoiseTuning) : Type 0 where
+  pub rng-is : rng ≡ rng_at v i
+  pub memories-are : Memories bands.z1 bands.z2 (memories_at v i) v.set.live v.set.live_count
+  pub fixed : Fixed bands v.lists live
+  pub long : length (memories_at v i) ≡ 32
+  pub off : AgreeOff (memories_at v i) v.state.memories v.set.live v.set.live_count
+  pub tuned : (f was : Float) → T (fits binary32 f) → Within 20000 1 f → t.f0 ≡ Some was → eq f was ≡ true → NoiseTunedTo v live f t
+
+module _ (v : Voice) (K : LiveFit v.set) (live : Live) (en : live.count ≡ v.set.live_count) (eb : live.bands ≡ v.set.live) (L : length v.state.memories ≡ 32) where
+  pub bands-at-first : (bands : BandColumns) (t : NoiseTuning) → Gathered bands v.lists v.state.memories live → t.f0 ≡ None → BandsAt v live 0 bands v.state.rng t
   unfolding rng_at memories_at steps
-  bands-at-first z1 z2 rows t M e = record {
+  bands-at-first bands t G e = record {
     rng-is = refl;
-    memories-are = M;
+    memories-are = rw (en, eb) at G.memories-are;
+    fixed = G.fixed;
     long = L;
     off = agree_same v.state.memories v.set.live v.set.live_count;
-    tuned = λ f F W q. absurd (untuned-none f (ap (λ (z : Float). eq f z) (sym e) ∙ q));
+    tuned = λ f was F W k q. cc;
   }
 
   -- LAW: at the end the memories go back to their places
-  pub bands-at-last : (i n : ℕ) (z1 z2 : List Float) (rng : Rng) (rows : List Float) (t : NoiseTuning) (ms : List Float) → i ≡ n → BandsAt v x i z1 z2 rng rows t
-      → ms ≡ scattered v.set.live z1 z2 v.state.memories v.set.live_count → (rng ≡ rng_at v n) × (ms ≡ memories_at v n)
-  bands-at-last i n z1 z2 rng rows t ms q G e =
-      (G.rng-is ∙ ap (λ (z : ℕ). rng_at v z) q, e ∙ scattered-is v K z1 z2 (memories_at v i) v.state.memories G.long L G.off G.memories-are ∙ ap (λ (z : ℕ). memories_at v z) q)
+  pub bands-at-last : (i n : ℕ) (bands : BandColumns) (rng : Rng) (t : NoiseTuning) (ms : List Float) → i ≡ n → BandsAt v live i bands rng t
+      → ms ≡ scattered live.bands bands.z1 bands.z2 v.state.memories live.count → (rng ≡ rng_at v n) × (ms ≡ memories_at v n)
+  bands-at-last i n bands rng t ms q G e =
+      let d : ms ≡ scattered v.set.live bands.z1 bands.z2 v.state.memories v.set.live_count = rw (en, eb) at e in (
+        G.rng-is ∙ ap (λ (z : ℕ). rng_at v z) q,
+        d ∙ scattered-is v K bands.z1 bands.z2 (memories_at v i) v.state.memories G.long L G.off G.memories-are ∙ ap (λ (z : ℕ). memories_at v z) q,
+      )
 
   -- one sample
-  module _ (freq : ℕ → Float) (g : ℕ → List Float) (i : ℕ) (z1 z2 : List Float) (rng : Rng) (rows₀ : List Float) (t₀ : NoiseTuning) (G : BandsAt v x i z1 z2 rng rows₀ t₀)
-      (f0 : Float) (ef : f0 ≡ cleaned (freq i)) (F : T (fits binary32 f0)) (W : Within 20000 1 f0) (rows : List Float) (t : NoiseTuning) (U : NoiseTunedTo v x f0 rows t)
-      (next : Bipolar) (en : (next.value ≡ noise_in rng) × (next.rng ≡ cond (eqb v.set.live_count 0) rng (next_bipolar rng).rng))
-      (ys w1 w2 cs : List Float) (C : Coeffs cs v.lists v.set.live v.set.live_count) (K1 : Ticked ys w1 w2 z1 z2 cs next.value v.set.live_count) where
+  module _ (freq : ℕ → Float) (g : ℕ → List Float) (i : ℕ) (old : BandColumns) (rng : Rng) (t₀ : NoiseTuning) (G : BandsAt v live i old rng t₀)
+      (f0 : Float) (ef : f0 ≡ cleaned (freq i)) (F : T (fits binary32 f0)) (W : Within 20000 1 f0) (t : NoiseTuning) (U : NoiseTunedTo v live f0 t)
+      (next : Bipolar) (enext : (next.value ≡ noise_in rng) × (next.rng ≡ cond (eqb live.count 0) rng (next_bipolar rng).rng))
+      (new : BandColumns) (S : Ticks old new next.value live.count) where
     noise-value : next.value ≡ noise_in (rng_at v i)
-    noise-value = en.0 ∙ ap (λ (z : Rng). noise_in z) G.rng-is
+    noise-value = enext.0 ∙ ap (λ (z : Rng). noise_in z) G.rng-is
+
+    coeffs-are : Coeffs old.coeffs v.lists v.set.live v.set.live_count
+    coeffs-are = rw (en, eb) at G.fixed.coeffs-are
+
+    ticked-are : Ticked new.ys new.z1 new.z2 old.z1 old.z2 old.coeffs next.value v.set.live_count
+    ticked-are = rw en at S.ticked
 
     -- LAW: the columns hold the memories after the sample
-    pub bands-at-next : BandsAt v x (i + 1) w1 w2 next.rng rows t
+    pub bands-at-next : BandsAt v live (i + 1) new next.rng t
     unfolding moved_rng
     bands-at-next = record {
-      rng-is = rng-again v i rng next.rng G.rng-is en.1;
-      memories-are = subst (λ (ms : List Float). Memories w1 w2 ms v.set.live v.set.live_count) (memories-again v i) (memories-moved v K (rng_at v i) (memories_at v i) next.value ys w1 w2 z1 z2 cs noise-value G.memories-are C K1 G.long);
+      rng-is = rng-again v i rng next.rng G.rng-is (enext.1 ∙ rw en);
+      memories-are =
+          subst (λ (ms : List Float). Memories new.z1 new.z2 ms v.set.live v.set.live_count) (memories-again v i)
+          (memories-moved v K (rng_at v i) (memories_at v i) next.value new.ys new.z1 new.z2 old.z1 old.z2 old.coeffs noise-value G.memories-are coeffs-are ticked-are G.long);
+      fixed = record { coeffs-are = rw S.coeffs-stay G.fixed.coeffs-are; makeup-is = rw S.makeup-stays G.fixed.makeup-is };
       long = ap (λ (ms : List Float). length ms) (sym (memories-again v i)) ∙ length-memories v K (rng_at v i) (memories_at v i) ∙ G.long;
-      off = subst (λ (ms : List Float). AgreeOff ms v.state.memories v.set.live v.set.live_count) (memories-again v i) (agree-moved v K (rng_at v i) (memories_at v i) v.state.memories G.off);
-      tuned = noise-stays v x rows t f0 F W U;
+      off =
+          subst (λ (ms : List Float). AgreeOff ms v.state.memories v.set.live v.set.live_count) (memories-again v i)
+          (agree-moved v K (rng_at v i) (memories_at v i) v.state.memories G.off);
+      tuned = λ f was H X k q. noise-stays v live t f0 F W U f was H X k q;
     }
 
     -- LAW: what is stored is the sample
-    pub noisy-sounds : (h makeup : List Float) (partials y : Float) → h ≡ g i → Filled makeup (λ l. get_or (compensations v) (get_or v.set.live l 0) nan) v.set.live_count
-        → y ≡ steps (λ l y. noise_added v.set.blend v.set.k rows h t.noise_gain makeup ys l y) partials v.set.live_count
-        → y ≡ noisy v freq g i partials
+    pub noisy-sounds : (h : List Float) (partials y : Float) → h ≡ g i → y ≡ steps (λ l y. noise_added (constants_at v.set) t h new l y) partials live.count → y ≡ noisy v freq g i partials
     unfolding sides_at noisy
-    noisy-sounds h makeup partials y eh M ey =
-        sum-is-sample v K (rng_at v i) (memories_at v i) f0 h t.noise_gain rows makeup ys U.noise-gain (rw (← X.0, ← X.1) U.rows_are) M
-        (filtered-at v K (rng_at v i) (memories_at v i) next.value ys w1 w2 z1 z2 cs noise-value G.memories-are C K1) partials y ey
+    noisy-sounds h partials y eh ey =
+        sum-is-sample v K (rng_at v i) (memories_at v i) f0 h t new U.noise-gain (rw (en, eb) at U.rows_are) (rw (en, eb) at bands-at-next.fixed.makeup-is)
+        (filtered-at v K (rng_at v i) (memories_at v i) next.value new.ys new.z1 new.z2 old.z1 old.z2 old.coeffs noise-value G.memories-are coeffs-are ticked-are) partials y (ey ∙ rw en)
         ∙ rw (ef, eh)
-
--- ---- the lists that the pass copies out of a voice's
-module _ (v : Voice) (a b : List Float) (ea : a ≡ pitches v) (eb : b ≡ noise_gains v) where
-  pub noise-tuned-of : (x : Constants) (f0 : Float) (rows : List Float) (t : NoiseTuning) → NoiseTuned x v.set.count v.set.live_count a b v.noise v.set.live f0 rows t → NoiseTunedTo v x f0 rows t
-  noise-tuned-of x f0 rows t U = rw (ea, eb) at U
-
-  pub of-noise-tuned : (x : Constants) (f0 : Float) (rows : List Float) (t : NoiseTuning) → NoiseTunedTo v x f0 rows t → NoiseTuned x v.set.count v.set.live_count a b v.noise v.set.live f0 rows t
-  of-noise-tuned x f0 rows t U = rw (ea, eb) U
-
--- the compensations of the live bands
-pub makeup-of : (v : Voice) (a makeup : List Float) → a ≡ compensations v → Filled makeup (λ l. get_or a (get_or v.set.live l 0) nan) v.set.live_count
-    → Filled makeup (λ l. get_or (compensations v) (get_or v.set.live l 0) nan) v.set.live_count
-makeup-of v a makeup e M = rw e at M

@@ -15,22 +15,22 @@ use Rattle.voice.specs.Lists.{map_to, up_to, steps}
 use Rattle.filters.specs.Wave.{sine_of}
 use Rattle.player.specs.Phase.{advance_of, inverse_of, step_of}
 use Rattle.voice.specs.Input.{cleaned}
-use Rattle.player.specs.Bracket.{value_between}
-use Rattle.voice.specs.Voice.{phase_ok, phases_ok, pitches, stretches, mainlobes}
+use Rattle.voice.specs.Voice.{phase_ok, phases_ok}
 use Rattle.player.specs.Sound.{sides_at, step_at, partial_term, partial_sum, moved_phases}
 use Rattle.player.specs.inner.Passes.{EntriesFit, phases_at, partials_out}
 use Rattle.player.specs.inner.Terms.{partial_added, sample_added}
-use Rattle.player.specs.inner.Tuning.{PitchAt, Tuned}
+use Rattle.player.specs.inner.Tuning.{PitchAt, constants_at, entries_at}
+use Rattle.std.specs.Prelude.{Option, Some, None}
 use Rattle.player.specs.declared.constants.Constants.{Constants}
-use Rattle.player.specs.declared.pitch.kept.Pitch.{Pitch}
+use Rattle.player.specs.declared.pitch.entries.Pitch.{Pitch}
 use Rattle.player.specs.declared.tuning.Tuning.{Tuning}
 use Rattle.voice.specs.declared.voice.Voice.{Voice}
 use Rattle.voice.proofs.Loops.{steps-again, every-at, at_every, map_to-at, up_to-again, up_to-full}
 use Rattle.player.proofs.RangeLaws.{advance-ok, phase-passes, step_small}
 use Rattle.player.proofs.ColumnLaws.{steps-as}
-use Rattle.player.proofs.SoundLaws.{ConstantsOf, inverse-small, phase-inside}
+use Rattle.player.proofs.SoundLaws.{inverse-small, phase-inside}
 use Rattle.player.proofs.TermLaws.{partial-by-one}
-use Rattle.player.proofs.PartialLaws.{TunedTo, TunedVoice, tuned-voice, stays, untuned-none, moved-phases, phases-kept, partial-sum-is}
+use Rattle.player.proofs.PartialLaws.{TunedTo, TunedVoice, tuned-voice, stays, moved-phases, phases-kept, partial-sum-is}
 
 -- the phases after a sample
 pub phases-again : (v : Voice) (freq : ℕ → Float) (i : ℕ) (ps qs : List Float) (f0 : Float) → ps ≡ phases_at v freq i → f0 ≡ cleaned (freq i) → qs ≡ moved_phases v f0 ps → qs ≡ phases_at v freq (i + 1)
@@ -56,46 +56,41 @@ module _ (v : Voice) (freq : ℕ → Float) (g : ℕ → List Float) where
   unfolding partials_out
   partials-out-full i n l ls ps q h e p = (p ∙ ap (λ (z : ℕ). phases_at v freq z) q, up_to-full (λ i. partial_sum v (cleaned (freq i)) (g i) (phases_at v freq i)) i n l ls q h e)
 
-module _ (v : Voice) (x : Constants) (freq : ℕ → Float) where
-  -- before sample i the phases are those of the definitions, and the columns are tuned to every frequency that compares equal to t's
-  pub record PartialsAt (i : ℕ) (phases incs fades rows : List Float) (t : Tuning) : Type 0 where
-    pub phases-are : phases ≡ phases_at v freq i
-    pub ok : phases_ok phases v.set.m ≡ true
-    pub tuned : (f : Float) → T (fits binary32 f) → Within 20000 1 f → eq f t.f0 ≡ true → TunedTo v x f incs fades rows t
+-- before sample i the phases are those of the definitions, and the columns are tuned to every frequency that compares equal to the one kept
+pub record PartialsAt (v : Voice) (freq : ℕ → Float) (i : ℕ) (phases : List Float) (t : Tuning) : Type 0 where
+  pub phases-are : phases ≡ phases_at v freq i
+  pub ok : phases_ok phases v.set.m ≡ true
+  pub tuned : (f was : Float) → T (fits binary32 f) → Within 20000 1 f → t.f0 ≡ Some was → eq f was ≡ true → TunedTo v f t
 
-module _ (v : Voice) (x : Constants) (X : ConstantsOf v x) (freq : ℕ → Float) (g : ℕ → List Float) where
-  pub partials-at-first : (incs fades rows : List Float) (t : Tuning) → phases_ok v.state.phases v.set.m ≡ true → t.f0 ≡ nan → PartialsAt v x freq 0 v.state.phases incs fades rows t
-  partials-at-first incs fades rows t h e = record {
-    phases-are = phases-first v freq;
-    ok = h;
-    tuned = λ f F W q. absurd (untuned-none f (ap (λ (z : Float). eq f z) (sym e) ∙ q));
-  }
+module _ (v : Voice) (freq : ℕ → Float) (g : ℕ → List Float) where
+  pub partials-at-first : (t : Tuning) → phases_ok v.state.phases v.set.m ≡ true → t.f0 ≡ None → PartialsAt v freq 0 v.state.phases t
+  partials-at-first t h e = record { phases-are = phases-first v freq; ok = h; tuned = λ f was F W k q. cc }
 
   -- one sample
-  module _ (i : ℕ) (phases incs₀ fades₀ rows₀ : List Float) (t₀ : Tuning) (G : PartialsAt v x freq i phases incs₀ fades₀ rows₀ t₀) (f0 : Float) (ef : f0 ≡ cleaned (freq i)) (F : T (fits binary32 f0)) (W : Within 20000 1 f0)
-      (incs fades rows : List Float) (t : Tuning) (U : TunedTo v x f0 incs fades rows t) (qs : List Float) (Q : qs ≡ map_to (λ i p. advance_of p (get_or incs i nan)) 0 v.set.m phases) where
-    held : TunedVoice v f0 incs fades rows t
-    held = tuned-voice v x X incs fades rows t f0 U
+  module _ (i : ℕ) (phases : List Float) (t₀ : Tuning) (G : PartialsAt v freq i phases t₀) (f0 : Float) (ef : f0 ≡ cleaned (freq i)) (F : T (fits binary32 f0)) (W : Within 20000 1 f0)
+      (t : Tuning) (U : TunedTo v f0 t) (qs : List Float) (Q : qs ≡ map_to (λ i p. advance_of p (get_or t.incs i nan)) 0 v.set.m phases) where
+    held : TunedVoice v f0 t
+    held = tuned-voice v t f0 U
 
     -- LAW: the columns hold the phases after the sample
-    pub partials-at-next : PartialsAt v x freq (i + 1) qs incs fades rows t
+    pub partials-at-next : PartialsAt v freq (i + 1) qs t
     partials-at-next = record {
-      phases-are = phases-again v freq i phases qs f0 G.phases-are ef (moved-phases v f0 incs fades rows t held phases qs G.ok Q);
-      ok = phases-kept v f0 incs fades rows t held phases qs G.ok Q;
-      tuned = stays v x X incs fades rows t f0 F W U;
+      phases-are = phases-again v freq i phases qs f0 G.phases-are ef (moved-phases v f0 t held phases qs G.ok Q);
+      ok = phases-kept v f0 t held phases qs G.ok Q;
+      tuned = λ f was H X k q. stays v t f0 F W U f was H X k q;
     }
 
     -- LAW: what is stored is the sum of the partials
     pub sounds : (h sines : List Float) (y : Float) → h ≡ g i → Filled sines (λ i. sine_of (get_or qs i nan)) v.set.m
-        → y ≡ steps (λ i y. partial_added v.set.blend v.set.k rows t.mainlobe fades h sines i y) (quotient 0 1) v.set.m
+        → y ≡ steps (λ i y. partial_added (constants_at v.set) t h sines i y) (quotient 0 1) v.set.m
         → y ≡ partial_sum v (cleaned (freq i)) (g i) (phases_at v freq i)
     sounds h sines y eh A e =
-        partial-sum-is v f0 incs fades rows t held phases qs G.ok Q h sines A y e
+        partial-sum-is v f0 t held phases qs G.ok Q h sines A y e
         ∙ ap (λ (z : List Float). partial_sum v f0 h z) G.phases-are ∙ ap (λ (z : Float). partial_sum v z h (phases_at v freq i)) ef ∙ ap (λ (z : List Float). partial_sum v (cleaned (freq i)) z (phases_at v freq i)) eh
 
 -- ---- few partials: one after the other
 abbrev pub PitchOf : Voice → Float → Pitch → Type 0
-PitchOf v f0 p = (p.f0 ≡ f0) × (p.s ≡ sides_at v f0) × (p.stretch ≡ value_between (stretches v) p.s) × (p.mainlobe ≡ value_between (mainlobes v) p.s)
+PitchOf v f0 p = PitchAt (entries_at v.set v.lists) f0 p
 
 -- LAW: phases that pass the test step to phases that pass it
 phases-step : (m : ℕ) (f0 stretch inv : Float) (ps : List Float) → m ≤ 32 → Within 20000 1 f0 → Within 8 1 stretch → Within 1 4096 inv → phases_ok ps m ≡ true
@@ -108,26 +103,31 @@ phases-step m f0 stretch inv ps M F S I h =
     ap (λ (z : Float). phase_ok z) (map_to-at (λ i p. advance_of p (step_of (i + 1) f0 stretch inv)) nan m i ps l (phase-inside ps m i h l))
     ∙ phase-passes _ (advance-ok (get_or ps i nan) (step_of (i + 1) f0 stretch inv) o (step_small (i + 1) f0 stretch inv (omega arith) F S I)))
 
-module _ (v : Voice) (f0 : Float) (x : Constants) (p : Pitch) (X : ConstantsOf v x) (P : PitchOf v f0 p) where
+module _ (v : Voice) (f0 : Float) (p : Pitch) (P : PitchOf v f0 p) where
+  abbrev x : Constants
+  x = constants_at v.set
+
+  abbrev moved_by : Pitch → List Float → List Float
+  moved_by p ps = map_to (λ i ph. advance_of ph (step_of (i + 1) p.f0 p.stretch x.inv)) 0 x.m ps
+
   -- LAW: what `sample_of` answers is the sum of the partials
-  pub sample-of-is : (g ps : List Float) (y : Float) → y ≡ steps (λ i y. sample_added x p v.partials g ps i y) (quotient 0 1) x.m → y ≡ partial_sum v f0 g ps
-  unfolding partial_sum
+  sample-of-is : (g ps : List Float) (y : Float) → y ≡ steps (λ i y. sample_added x p v.partials g ps i y) (quotient 0 1) x.m → y ≡ partial_sum v f0 g ps
+  unfolding partial_sum sides_at
   sample-of-is g ps y e =
       e
-      ∙ rw (X.0, X.1, X.2, X.3, X.4, P.2, P.3, P.1, P.0)
+      ∙ rw (P.stretch-is, P.mainlobe-is, P.sides-are, P.at)
       (steps-as _ _ (quotient 0 1) v.set.m (λ i l y. partial-by-one v f0 g i y (advance_of (get_or ps i nan) (step_at v f0 i))))
 
   -- LAW: its phases are those after the sample
-  pub phases-is : (ps ls : List Float) → ls ≡ map_to (λ i ph. advance_of ph (step_of (i + 1) p.f0 p.stretch x.inv)) 0 x.m ps → ls ≡ moved_phases v f0 ps
-  unfolding moved_phases
-  phases-is ps ls e = e ∙ rw (X.2, X.3, P.2, P.1, P.0)
+  pub phases-is : (ps ls : List Float) → ls ≡ moved_by p ps → ls ≡ moved_phases v f0 ps
+  unfolding moved_phases sides_at
+  phases-is ps ls e = e ∙ rw (P.stretch-is, P.sides-are, P.at)
 
   -- LAW: and they pass the test of phases
-  pub phases-keep : (ps ls : List Float) → EntriesFit v.set v.lists → Within 20000 1 f0 → Within 8 1 p.stretch → ls ≡ map_to (λ i ph. advance_of ph (step_of (i + 1) p.f0 p.stretch x.inv)) 0 x.m ps → phases_ok ps v.set.m ≡ true
-      → phases_ok ls v.set.m ≡ true
-  phases-keep ps ls F W S e h =
-      let q : map_to (λ i ph. advance_of ph (step_of (i + 1) p.f0 p.stretch x.inv)) 0 x.m ps ≡ map_to (λ i ph. advance_of ph (step_of (i + 1) f0 p.stretch (inverse_of v.set.sample_rate))) 0 v.set.m ps = rw (P.0, X.3, X.2) in
-      ap (λ (z : List Float). phases_ok z v.set.m) (e ∙ q) ∙ phases-step v.set.m f0 p.stretch (inverse_of v.set.sample_rate) ps F.sizes.1 W S (inverse-small v.set v.lists F) h
+  pub phases-keep : (ps ls : List Float) → EntriesFit v.set v.lists → Within 20000 1 f0 → ls ≡ moved_by p ps → phases_ok ps v.set.m ≡ true → phases_ok ls v.set.m ≡ true
+  phases-keep ps ls F W e h =
+      let w : Within 20000 1 p.f0 = subst (λ (z : Float). Within 20000 1 z) (sym P.at) W in
+      ap (λ (z : List Float). phases_ok z v.set.m) e ∙ phases-step v.set.m p.f0 p.stretch x.inv ps F.sizes.1 w P.small (inverse-small v.set v.lists F) h
 
   -- a single voice sounds by gain 0 alone
   gains-alike : (ps g h : List Float) → get_or h 0 nan ≡ get_or g 0 nan → (eqb v.set.blend 0 ≡ false → h ≡ g) → partial_sum v f0 h ps ≡ partial_sum v f0 g ps
@@ -139,33 +139,32 @@ module _ (v : Voice) (f0 : Float) (x : Constants) (p : Pitch) (X : ConstantsOf v
       go false q = ap (λ (z : List Float). partial_sum v f0 z ps) (k q)
 
   -- LAW: the sum is the definition's, where the phases were
-  pub few-sounds : (freq : ℕ → Float) (g : ℕ → List Float) (i : ℕ) (h ps : List Float) (y : Float) → f0 ≡ cleaned (freq i) → (get_or h 0 nan ≡ get_or (g i) 0 nan) × (eqb v.set.blend 0 ≡ false → h ≡ g i) → ps ≡ phases_at v freq i → y ≡ partial_sum v f0 h ps
-      → y ≡ partial_sum v (cleaned (freq i)) (g i) (phases_at v freq i)
-  few-sounds freq g i h ps y ef eh ep e = e ∙ gains-alike ps (g i) h eh.0 eh.1 ∙ rw (ef, ep)
+  pub few-sounds : (freq : ℕ → Float) (g : ℕ → List Float) (i : ℕ) (h ps : List Float) (y : Float) → f0 ≡ cleaned (freq i) → (get_or h 0 nan ≡ get_or (g i) 0 nan) × (eqb v.set.blend 0 ≡ false → h ≡ g i) → ps ≡ phases_at v freq i
+      → y ≡ steps (λ i y. sample_added x p v.partials h ps i y) (quotient 0 1) x.m → y ≡ partial_sum v (cleaned (freq i)) (g i) (phases_at v freq i)
+  few-sounds freq g i h ps y ef eh ep e = sample-of-is h ps y e ∙ gains-alike ps (g i) h eh.0 eh.1 ∙ rw (ef, ep)
 
 -- what a frequency decides serves every frequency that compares equal: it is the same
-pub pitch-stays : (v : Voice) (p : Pitch) (f0 : Float) → T (fits binary32 f0) → Within 20000 1 f0 → PitchAt (pitches v) (stretches v) (mainlobes v) v.set.count f0 p
-    → (f : Float) → T (fits binary32 f) → Within 20000 1 f → eq f p.f0 ≡ true → PitchAt (pitches v) (stretches v) (mainlobes v) v.set.count f p
-pitch-stays v p f0 F W P f G U e =
-    subst (λ (z : Float). PitchAt (pitches v) (stretches v) (mainlobes v) v.set.count z p) (sym (same_float f f0 G F U.plain-is W.plain-is (ap (λ (z : Float). eq f z) (sym P.at) ∙ e))) P
+pub pitch-stays : (v : Voice) (p : Pitch) (f0 : Float) → T (fits binary32 f0) → Within 20000 1 f0 → PitchOf v f0 p
+    → (f : Float) (was : Pitch) → T (fits binary32 f) → Within 20000 1 f → Some p ≡ Some was → eq f was.f0 ≡ true → PitchOf v f was
+pitch-stays v p f0 F W P f was H X k q =
+    let e : p ≡ was = cc in
+    let same : f ≡ f0 = same_float f f0 H F X.plain-is W.plain-is (ap (λ (z : Float). eq f z) (sym P.at) ∙ ap (λ (z : Pitch). eq f z.f0) e ∙ q) in
+    rw (← e, same) P
 
-pub pitch-of : (v : Voice) (p : Pitch) (f0 : Float) → PitchAt (pitches v) (stretches v) (mainlobes v) v.set.count f0 p → PitchOf v f0 p
-unfolding sides_at
-pitch-of v p f0 P = (P.at, P.sides-are, P.stretch-is, P.mainlobe-is)
+-- before sample i: the phases, and what is kept serves every frequency that compares equal
+pub record FewAt (v : Voice) (freq : ℕ → Float) (i : ℕ) (phases : List Float) (kept : Option Pitch) : Type 0 where
+  pub phases-are : phases ≡ phases_at v freq i
+  pub ok : phases_ok phases v.set.m ≡ true
+  pub pitched : (f : Float) (p : Pitch) → T (fits binary32 f) → Within 20000 1 f → kept ≡ Some p → eq f p.f0 ≡ true → PitchOf v f p
 
-pub no-pitch-yet : (v : Voice) (p : Pitch) → p.f0 ≡ nan → (f : Float) → T (fits binary32 f) → Within 20000 1 f → eq f p.f0 ≡ true → PitchAt (pitches v) (stretches v) (mainlobes v) v.set.count f p
-no-pitch-yet v p n f F W e = absurd (untuned-none f (ap (λ (z : Float). eq f z) (sym n) ∙ e))
+pub few-at-first : (v : Voice) (freq : ℕ → Float) → phases_ok v.state.phases v.set.m ≡ true → FewAt v freq 0 v.state.phases None
+few-at-first v freq h = record { phases-are = phases-first v freq; ok = h; pitched = λ f p F W k q. cc }
 
--- ---- the lists that a pass copies out of a voice's
-module _ (v : Voice) (a b d : List Float) (ea : a ≡ pitches v) (eb : b ≡ stretches v) (ed : d ≡ mainlobes v) where
-  pub tuned-of : (x : Constants) (f0 : Float) (incs fades rows : List Float) (t : Tuning) → Tuned x v.set.count a b d v.partials f0 incs fades rows t → TunedTo v x f0 incs fades rows t
-  tuned-of x f0 incs fades rows t U = rw (ea, eb, ed) at U
-
-  pub of-tuned : (x : Constants) (f0 : Float) (incs fades rows : List Float) (t : Tuning) → TunedTo v x f0 incs fades rows t → Tuned x v.set.count a b d v.partials f0 incs fades rows t
-  of-tuned x f0 incs fades rows t U = rw (ea, eb, ed) U
-
-  pub pitched-of : (f0 : Float) (p : Pitch) → PitchAt a b d v.set.count f0 p → PitchAt (pitches v) (stretches v) (mainlobes v) v.set.count f0 p
-  pitched-of f0 p P = rw (ea, eb, ed) at P
-
-  pub of-pitched : (f0 : Float) (p : Pitch) → PitchAt (pitches v) (stretches v) (mainlobes v) v.set.count f0 p → PitchAt a b d v.set.count f0 p
-  of-pitched f0 p P = rw (ea, eb, ed) P
+pub few-at-next : (v : Voice) (freq : ℕ → Float) (i : ℕ) (ps qs : List Float) (kept : Option Pitch) (f0 : Float) (p : Pitch) → FewAt v freq i ps kept → EntriesFit v.set v.lists
+    → f0 ≡ cleaned (freq i) → T (fits binary32 f0) → Within 20000 1 f0 → PitchOf v f0 p → qs ≡ map_to (λ i ph. advance_of ph (step_of (i + 1) p.f0 p.stretch (inverse_of v.set.sample_rate))) 0 v.set.m ps
+    → FewAt v freq (i + 1) qs (Some p)
+few-at-next v freq i ps qs kept f0 p G N ef F W P e = record {
+  phases-are = phases-again v freq i ps qs f0 G.phases-are ef (phases-is v f0 p P ps qs e);
+  ok = phases-keep v f0 p P ps qs N W e G.ok;
+  pitched = λ f was H X k q. pitch-stays v p f0 F W P f was H X k q;
+}

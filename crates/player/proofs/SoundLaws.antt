@@ -1,5 +1,5 @@
 -- The parts of a sample as the loops work them out, put together to `sound` and `moved`; what a sample keeps of the voice rules.
-use mathlib.Core.Path.{◌≡◌, refl, sym, ap, ◌∙◌}
+use mathlib.Core.Path.{◌≡◌, refl, sym, ap, ◌∙◌, subst}
 use mathlib.Core.List.{List, [], ◌∷◌}
 use mathlib.Core.Bool.{Bool, true, false, cond, ◌&&◌, ◌||◌}
 use Prim.Native.Nat.{ℕ, zero, suc, ◌+◌, ◌*◌, ◌%◌, ◌≤◌, ◌<◌}
@@ -15,28 +15,26 @@ use borrow.Author.Tests.{ltb-true, not-true}
 use Rattle.float.specs.inner.Range.{Within}
 use Rattle.float.proofs.Within.{le→cross}
 use Rattle.float.proofs.Fraction.{not-lt}
-use Rattle.float.specs.F32.{◌⊗◌, quotient}
+use Rattle.float.specs.F32.{quotient}
 use Rattle.voice.specs.Lists.{up_to, every}
 use Rattle.player.specs.Phase.{inverse_of}
 use Rattle.voice.specs.Input.{part_of, frequency_of, frequency_ok, frequencies_ok, cleaned}
-use Rattle.player.specs.inner.Passes.{EntriesFit, VoiceFits, FrequenciesFit}
+use Rattle.player.specs.Bands.{ticking}
+use Rattle.player.specs.inner.Passes.{EntriesFit, LiveFit, VoiceFits, FrequenciesFit, frequency_in}
+use Rattle.player.specs.inner.Tuning.{EntriesIn, entries_at}
+use Rattle.player.proofs.BandLaws.{ticking-rules}
+use Rattle.voice.specs.declared.inputs.Inputs.{Inputs}
 use Rattle.player.specs.inner.Ranges.{SidesIn}
 use Rattle.voice.specs.Voice.{phase_ok, pitch_ok, stretch_ok, phases_ok, counts_ok, entries_ok, live_ok, pitches_ascend, bands_ascend, keeps_rules, pitches, stretches}
 use Rattle.player.specs.Sound.{sound, moved}
 use Rattle.player.specs.Block.{state_at, channel_out}
 use Rattle.player.specs.declared.pitch.bracket.Sides.{Sides}
-use Rattle.player.specs.declared.constants.Constants.{Constants}
 use Rattle.voice.specs.declared.voice.Setting.{Setting}
 use Rattle.voice.specs.declared.voice.Voice.{Voice}
 use Rattle.voice.proofs.Loops.{both_true, every-at, steps-same, length-up_to, read-any}
 use Rattle.voice.proofs.QuestionLaws.{kept, counts-are}
 use Rattle.player.proofs.PhaseLaws.{inverse-within}
 use Rattle.filters.proofs.Tests.{rate-is}
-
--- ---- one sample
--- what `constants_of` hands over is the voice's
-abbrev pub ConstantsOf : Voice → Constants → Type 0
-ConstantsOf v x = (x.blend ≡ v.set.blend) × (x.k ≡ v.set.k) × (x.m ≡ v.set.m) × (x.inv ≡ inverse_of v.set.sample_rate) × (x.nyquist ≡ v.set.sample_rate ⊗ quotient 1 2)
 
 -- ---- a channel
 module _ (v : Voice) (freq : ℕ → Float) (g : ℕ → List Float) where
@@ -82,15 +80,27 @@ cleaned-within (fin false m e) h = go (lt (quotient 0 1) (fin false m e))
     go false = record { plain-is = tt; upper = lit≤ tt }
 
 -- what a voice that keeps the rules has, as playing needs it
+live-fits : (v : Voice) → keeps_rules v ≡ true → LiveFit v.set
+unfolding counts_ok live_ok
+live-fits v h =
+    let s = v.set in
+    let k = kept v h in
+    let sizes = counts-are s.count s.m s.j s.k s.live_count k.counts in
+    let l = both_true (every (λ i. ltb (get_or s.live i 0) s.j) s.live_count) (bands_ascend s.live s.live_count) k.live in
+    record {
+      most = sizes.4;
+      inside = record { below = λ i a. let b : get_or s.live i 0 < s.j = ltb-true _ _ (every-at (λ i. ltb (get_or s.live i 0) s.j) s.live_count i l.0 a) in omega (arith, sizes) };
+      ascend = l.1;
+    }
+
 pub voice-fits : (v : Voice) → keeps_rules v ≡ true → VoiceFits v.set v.lists v.state.phases
-unfolding counts_ok entries_ok live_ok
+unfolding counts_ok entries_ok
 voice-fits v h =
     let s = v.set in
     let k = kept v h in
     let sizes = counts-are s.count s.m s.j s.k s.live_count k.counts in
     let e = both_true (every (λ i. pitch_ok (get_or (pitches v) i nan)) s.count) (pitches_ascend (pitches v) s.count && every (λ i. stretch_ok (get_or (stretches v) i nan)) s.count) k.entries in
     let r = both_true (le (quotient 8000 1) s.sample_rate) (le s.sample_rate (quotient 192000 1)) k.rate in
-    let l = both_true (every (λ i. ltb (get_or s.live i 0) s.j) s.live_count) (bands_ascend s.live s.live_count) k.live in
     record {
       entries = record {
         sizes = (sizes.0, sizes.1, sizes.3);
@@ -98,11 +108,8 @@ voice-fits v h =
         stretches-ok = (both_true (pitches_ascend (pitches v) s.count) (every (λ i. stretch_ok (get_or (stretches v) i nan)) s.count) e.1).1;
         rate = rate-is s.sample_rate (shown _ r.0) (shown _ r.1);
       };
-      live-bands = record {
-        most = sizes.4;
-        inside = record { below = λ i a. let b : get_or s.live i 0 < s.j = ltb-true _ _ (every-at (λ i. ltb (get_or s.live i 0) s.j) s.live_count i l.0 a) in omega (arith, sizes) };
-        ascend = l.1;
-      };
+      bands = sizes.2;
+      live-bands = live-fits (ticking v) (ticking-rules v h);
       phases-ok = k.phases;
     }
 
@@ -130,6 +137,14 @@ frequencies-fit k n ch s h i = go (eqb k 0) h
     go : (z : Bool) → z || every (λ i. frequency_ok (get_or s i nan)) (length s) ≡ true → frequency_ok (frequency_of (cond z [] (take n (drop ((ch % k) * n) s))) i) ≡ true
     go true e = default_ok
     go false e = part-ok s ((ch % k) * n) n i (λ j l. every-at (λ i. frequency_ok (get_or s i nan)) (length s) j e l)
+
+-- the entries of a voice that is played, with one at least
+pub entries-in : (s : Setting) (lists : List Float) → EntriesFit s lists → 1 ≤ s.count → EntriesIn (entries_at s lists)
+entries-in s lists F h = record { some = h; most = F.sizes.0; pitches-ok = F.pitches-ok; stretches-ok = F.stretches-ok }
+
+-- the frequency of a sample is one that can be played
+pub within : (parts : Inputs) → FrequenciesFit parts.freq.now → (i : ℕ) (f0 : Float) → f0 ≡ cleaned (frequency_in parts i) → Within 20000 1 f0
+within parts h i f0 e = subst (λ (z : Float). Within 20000 1 z) (sym e) (cleaned-within (frequency_in parts i) (h i))
 
 pub sides-wide : (n : ℕ) (s : Sides) → n ≤ 16 → SidesIn n s → SidesIn 16 s
 sides-wide n s h k = record { low = omega (arith, k.low); high = omega (arith, k.high) }

@@ -2,10 +2,9 @@
 use Rattle.std.specs.Prelude.{ℕ, ◌≡◌, List, length, Float}
 use Rattle.voice.specs.Input.{Call}
 use Rattle.voice.specs.Question.{play_question, accepted}
-use Rattle.voice.specs.Voice.{with_state, state_of}
+use Rattle.voice.specs.Voice.{with_state}
 use Rattle.player.specs.Bands.{ticking}
 use Rattle.player.specs.Block.{block_out, block_end}
-use Rattle.player.specs.declared.playing.Moved.{Moved}
 use Rattle.voice.specs.declared.answer.Played.{Played}
 use Rattle.voice.specs.declared.voice.Voice.{Voice}
 
@@ -20,14 +19,8 @@ played v c len =
 unfoldable pub played_out : Voice → Call → List Float → List Float
 played_out v c out = accepted (play_question v c (length out)) (block_out (ticking v) c) out
 
--- what a play promises, where `out` is the output at the call and `out'` at the return. The answer `p` has the voice after the play: of a
--- voice where it lies, the number that is answered and the voice that lies there at the return.
+-- what a play promises, where `out` is the output at the call and `out'` at the return. The answer `p` has the number that is answered and
+-- the voice after the play: the one that lies there at the return.
 pub record Plays (v : Voice) (c : Call) (out : List Float) (p : Played) (out' : List Float) : Type 0 where
   pub answered : p ≡ played v c (length out)
-  pub written : out' ≡ played_out v c out
-
--- and of a voice whose parts are lent: the number, and the running state after the call, whose phases and memories lie where they lay
-pub record PlaysParts (v : Voice) (c : Call) (out : List Float) (m : Moved) (phases memories out' : List Float) : Type 0 where
-  pub answered : m.number ≡ (played v c (length out)).number
-  pub moves : state_of phases memories m.rng ≡ (played v c (length out)).voice.state
   pub written : out' ≡ played_out v c out

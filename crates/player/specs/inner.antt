@@ -2,6 +2,7 @@
 pub mod Ranges
 pub mod Sines
 pub mod Columns
+pub mod Bands
 pub mod Passes
 pub mod Tuning
 pub mod Terms

@@ -1,35 +1,42 @@
 // Which bands of a voice tick: of a single voice all of them, whatever its list of live bands says; of a blend those of the list.
 ghost use Rattle.std.specs.Prelude.{◌≡◌, ◌≤◌};
 ghost use Rattle.voice.specs.Limits.{max_bands};
-ghost use Rattle.player.specs.Bands.{all_bands, ticking_set};
+ghost use Rattle.player.specs.Bands.{all_bands};
+ghost use Rattle.player.specs.inner.Passes.{LiveOf};
 
 use voice::Setting;
+
+// The bands that tick, in their order: the first `count` of `bands`.
+#[derive(Clone, Copy)]
+pub struct Live {
+    pub count: usize,
+    pub bands: [u8; 16],
+}
 
 fn all_bands(j: usize) -> [u8; 16]
     requires { j ≤ max_bands }
     ensures { result ≡ all_bands j }
 {
     let mut bands: [u8; 16] = [0; 16];
-    let mut b = 0;
-    while b < j {
+    for b in 0..j {
         bands[b] = b as u8;
-        b += 1;
     }
     bands
 }
 
-// A voice's numbers as it is played by them.
-pub fn ticking(set: Setting) -> Setting
-    requires { set.j ≤ max_bands }
-    ensures { result ≡ ticking_set set }
+pub fn live_of(set: &Setting) -> Live
+    requires { set.now.j ≤ max_bands }
+    ensures { LiveOf set.now result }
 {
     if set.blend != 0 {
-        return set;
+        Live {
+            count: set.live_count,
+            bands: set.live,
+        }
+    } else {
+        Live {
+            count: set.j,
+            bands: all_bands(set.j),
+        }
     }
-    let j = set.j;
-    let live = all_bands(j);
-    let mut all = set;
-    all.live_count = j;
-    all.live = live;
-    all
 }

@@ -1,87 +1,48 @@
 // One channel of a block, in two passes: the partials of all samples, and then what the live bands add.
-// It starts from the state that it is lent, and leaves there the state at its end; the noise number is its answer.
+// It starts from the state that it is lent, and leaves there the state at its end.
 ghost use Rattle.std.specs.Prelude.{◌≡◌, true, ◌≤◌, length};
-ghost use Rattle.float.specs.F32.{quotient};
-ghost use Rattle.voice.specs.Lists.{up_to};
-ghost use Rattle.voice.specs.Input.{frequency_of, gains_of};
-ghost use Rattle.voice.specs.Voice.{voice_of, state_of, phases_ok};
-ghost use Rattle.player.specs.inner.Passes.{EntriesFit, VoiceFits, FrequenciesFit, partials_voice, PartialsPlayed, ChannelPlayed};
+ghost use Rattle.voice.specs.Voice.{phases_ok};
+ghost use Rattle.player.specs.inner.Passes.{EntriesFit, VoiceFits, FrequenciesFit, frequency_in, gains_in};
+ghost use Rattle.player.specs.inner.Passes.{toned, partials_of, PartialsPlayed, ChannelPlayed};
 
+use crate::bands::live_of;
 use crate::noise::pass::noise_pass;
 use crate::partials::in_columns::partials_in_columns;
 use crate::partials::one_by_one::partials_one_by_one;
-use filters::Rng;
-use voice::{LISTS_PLACES, Setting};
-
-fn silence(out: &mut [f32])
-    ensures { out.new ≡ up_to (λ i. quotient 0 1) (length out.old) }
-{
-    let mut i = 0;
-    while i < out.len() {
-        out[i] = 0.0;
-        i += 1;
-    }
-}
+use crate::timbre::Timbre;
+use voice::{Inputs, State};
 
 // The partials: none, few, or so many that columns are worth while.
-fn all_partials(
-    set: Setting,
-    lists: &[f32; LISTS_PLACES],
-    partials: &[f32; 2048],
-    phases: &mut [f32; 32],
-    freq: &[f32],
-    g0: &[f32],
-    g1: &[f32],
-    g2: &[f32],
-    g3: &[f32],
-    out: &mut [f32],
-)
-    requires { EntriesFit set lists.now × (phases_ok phases.old set.m ≡ true) × (1 ≤ set.count) × FrequenciesFit freq.now }
-    ensures { PartialsPlayed (partials_voice set lists.now partials.now phases.old)
-        (frequency_of freq.now) (gains_of g0.now g1.now g2.now g3.now)
+fn all_partials<'a>(timbre: Timbre<'a>, phases: &mut [f32; 32], inputs: Inputs<'a>, out: &mut [f32])
+    requires { EntriesFit timbre.set.now timbre.lists.now × (phases_ok phases.old timbre.set.now.m ≡ true)
+        × (1 ≤ timbre.set.now.count) × FrequenciesFit inputs.freq.now }
+    ensures { PartialsPlayed (partials_of timbre.entry phases.old) (frequency_in inputs.entry) (gains_in inputs.entry)
         (length out.old) phases.new out.new }
 {
-    if set.m == 0 {
-        silence(out);
-        return;
+    if timbre.set.m == 0 {
+        out.fill(0.0);
+    } else if timbre.set.m < 4 {
+        partials_one_by_one(timbre, phases, inputs, out);
+    } else {
+        partials_in_columns(timbre, phases, inputs, out);
     }
-    if set.m < 4 {
-        partials_one_by_one(set, lists, partials, phases, freq, g0, g1, g2, g3, out);
-        return;
-    }
-    partials_in_columns(set, lists, partials, phases, freq, g0, g1, g2, g3, out);
 }
 
 // The inputs are the parts that the channel reads.
-pub fn channel_of(
-    set: Setting,
-    lists: &[f32; LISTS_PLACES],
-    partials: &[f32; 2048],
-    noise: &[f32; 1024],
-    phases: &mut [f32; 32],
-    memories: &mut [f32; 32],
-    rng: Rng,
-    freq: &[f32],
-    g0: &[f32],
-    g1: &[f32],
-    g2: &[f32],
-    g3: &[f32],
-    out: &mut [f32],
-) -> Rng
-    requires { VoiceFits set lists.now phases.old × FrequenciesFit freq.now }
-    ensures { ChannelPlayed
-        (voice_of set lists.now partials.now noise.now (state_of phases.old
-        memories.old rng))
-        (frequency_of freq.now) (gains_of g0.now g1.now g2.now g3.now)
-        (length out.old) result phases.new memories.new out.new }
+pub fn channel_of<'a>(timbre: Timbre<'a>, state: &mut State, inputs: Inputs<'a>, out: &mut [f32])
+    requires { VoiceFits timbre.set.now timbre.lists.now state.old.phases × FrequenciesFit inputs.freq.now }
+    ensures { ChannelPlayed (toned timbre.entry state.old) (frequency_in inputs.entry) (gains_in inputs.entry)
+        (length out.old) state.new out.new }
 {
-    if set.count == 0 {
-        silence(out);
-        return rng;
+    if timbre.set.count == 0 {
+        out.fill(0.0);
+        return;
     }
-    all_partials(set, lists, partials, phases, freq, g0, g1, g2, g3, out);
-    if set.live_count == 0 {
-        return rng;
+    all_partials(timbre, &mut state.phases, inputs, out);
+    let live = live_of(timbre.set);
+    if live.count == 0 {
+        return;
     }
-    noise_pass(set, lists, noise, memories, rng, freq, g0, g1, g2, g3, out)
+    let rng = noise_pass(timbre, &live, &mut state.memories, state.rng, inputs, out);
+    state.rng = rng;
 }

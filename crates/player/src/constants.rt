@@ -1,7 +1,9 @@
 // What stays the same through a channel: which partials sound, and by what rate.
-ghost use Rattle.std.specs.Prelude.{◌≡◌};
-ghost use Rattle.float.specs.F32.{◌⊗◌, quotient};
-ghost use Rattle.player.specs.Phase.{inverse_of};
+ghost use Rattle.std.specs.Prelude.{◌≡◌, ◌≤◌};
+ghost use Rattle.voice.specs.Limits.{max_blended};
+ghost use Rattle.player.specs.inner.Tuning.{constants_at, rows_in};
+
+use voice::Setting;
 
 #[derive(Clone, Copy)]
 pub struct Constants {
@@ -12,14 +14,24 @@ pub struct Constants {
     pub nyquist: f32,
 }
 
-pub fn constants_of(blend: u32, k: usize, m: usize, rate: f32) -> Constants
-    ensures { (result.blend ≡ blend) × (result.k ≡ k) × (result.m ≡ m) × (result.inv ≡ inverse_of rate) × (result.nyquist ≡ rate ⊗ quotient 1 2) }
-{
-    Constants {
-        blend,
-        k,
-        m,
-        inv: 1.0 / rate,
-        nyquist: rate * 0.5,
+impl Constants {
+    pub fn of(set: &Setting) -> Constants
+        ensures { result ≡ constants_at set.now }
+    {
+        Constants {
+            blend: set.blend,
+            k: set.k,
+            m: set.m,
+            inv: 1.0 / set.sample_rate,
+            nyquist: set.sample_rate * 0.5,
+        }
+    }
+
+    // A single voice has one row of coefficients, a blend one for each channel.
+    pub fn rows(self) -> usize
+        requires { self.k ≤ max_blended }
+        ensures { (result ≡ rows_in self) × (result ≤ max_blended) }
+    {
+        if self.blend == 0 { 1 } else { self.k }
     }
 }

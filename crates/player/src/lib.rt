@@ -12,6 +12,7 @@ mod noise;
 mod partials;
 mod pitch;
 mod playing;
+mod timbre;
 mod tuning;
 
-pub use playing::{Moved, play, play_parts};
+pub use playing::play;

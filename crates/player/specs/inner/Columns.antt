@@ -1,5 +1,5 @@
 -- Columns of live bands: place l of a column belongs to live band l, that is to band `live[l]`. Cited by private functions only.
-use Rattle.std.specs.Prelude.{ℕ, ◌+◌, ◌*◌, ◌<◌, ◌≡◌, List, true, cond, pos, get_or, Float}
+use Rattle.std.specs.Prelude.{ℕ, ◌+◌, ◌*◌, ◌<◌, ◌≤◌, ◌≡◌, List, true, cond, pos, get_or, Float}
 use Rattle.std.specs.Float.{nan, fin}
 use Rattle.std.specs.Float.Ieee.{ne}
 use Rattle.float.specs.F32.{◌⊕◌, ◌⊗◌, quotient}
@@ -9,10 +9,16 @@ use Rattle.voice.specs.Voice.{band_at, memory_at, with_memory}
 use Rattle.filters.specs.declared.biquad.BiquadCoeffs.{BiquadCoeffs}
 use Rattle.filters.specs.declared.biquad.BiquadState.{BiquadState}
 use Rattle.voice.specs.Limits.{max_bands}
+use Rattle.player.specs.declared.bands.Live.{Live}
 
 -- each of the first n is one of 16 bands
 pub record LiveIn (live : List ℕ) (n : ℕ) : Type 0 where
   pub below : (l : ℕ) → l < n → get_or live l 0 < max_bands
+
+-- bands that tick, of which there are no more than a voice can have
+pub record LiveFits (live : Live) : Type 0 where
+  pub most : live.count ≤ max_bands
+  pub inside : LiveIn live.bands live.count
 
 -- place l of two columns, and of five rows of 32 places
 abbrev pub state_of_columns : List Float → List Float → ℕ → BiquadState
@@ -66,3 +72,13 @@ pub record Filled (xs : List Float) (f : ℕ → Float) (n : ℕ) : Type 0 where
 -- rows of 32 places: row q, for q below k, holds f q 0, f q 1, .., f q (n - 1)
 pub record FilledRows (xs : List Float) (f : ℕ → ℕ → Float) (k n : ℕ) : Type 0 where
   pub at : (q i : ℕ) → q < k → i < n → get_or xs (q * 32 + i) nan ≡ f q i
+
+-- what a closure gives: f of each place below n, of each place of k rows of n, and of every float
+abbrev pub GivesEach : (ℕ → Float → Type 0) → ℕ → (ℕ → Float) → Type 0
+GivesEach post n f = (i : ℕ) (r : Float) → i < n → post i r → r ≡ f i
+
+abbrev pub GivesRows : (ℕ → ℕ → Float → Type 0) → ℕ → ℕ → (ℕ → ℕ → Float) → Type 0
+GivesRows post k n f = (q i : ℕ) (r : Float) → q < k → i < n → post q i r → r ≡ f q i
+
+abbrev pub GivesAll : (Float → Float → Type 0) → (Float → Float) → Type 0
+GivesAll post f = (x r : Float) → post x r → r ≡ f x

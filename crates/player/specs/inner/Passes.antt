@@ -4,15 +4,20 @@ use Rattle.std.specs.Prelude.{ℕ, ◌≤◌, ◌≡◌, true, List, [], get_or,
 use Rattle.std.specs.Float.{nan}
 use Rattle.filters.specs.inner.Ranges.{Rate}
 use Rattle.voice.specs.Lists.{up_to, steps, every}
-use Rattle.voice.specs.Input.{Call, inputs_ok, frequencies_ok, frequency_of, frequency_ok, cleaned}
+use Rattle.voice.specs.Input.{Call, inputs_ok, frequencies_ok, part_of, frequency_of, gains_of, frequency_ok, cleaned}
 use Rattle.voice.specs.Voice.{list_at, pitches_list, stretches_list, pitch_ok, stretch_ok, phases_ok, bands_ascend, voice_of, state_of}
 use Rattle.player.specs.Sound.{moved_phases, moved_memories, moved_rng, partial_sum, noise_sum}
 use Rattle.player.specs.Block.{state_at, channel_out, block_out, block_end}
 use Rattle.player.specs.inner.Columns.{LiveIn}
 use Rattle.filters.specs.declared.rng.Rng.{Rng}
 use Rattle.voice.specs.declared.voice.Setting.{Setting}
+use Rattle.voice.specs.declared.voice.State.{State}
 use Rattle.voice.specs.declared.voice.Voice.{Voice}
-use Rattle.voice.specs.Limits.{max_entries, max_partials, max_bands, max_blended}
+use Rattle.voice.specs.declared.inputs.Inputs.{Inputs}
+use Rattle.player.specs.Bands.{ticking_set}
+use Rattle.player.specs.declared.bands.Live.{Live}
+use Rattle.player.specs.declared.timbre.Timbre.{Timbre}
+use Rattle.voice.specs.Limits.{max_entries, max_partials, max_bands, max_blended, max_samples, max_channels}
 
 -- ---- what of the voice rules playing needs
 -- of the entries, so that every frequency can be looked up and gives steps that a phase can gain
@@ -35,13 +40,29 @@ FrequenciesFit fs = (i : ℕ) → frequency_ok (frequency_of fs i) ≡ true
 -- all that a channel or a block needs of the voice
 pub record VoiceFits (s : Setting) (lists phases : List Float) : Type 0 where
   pub entries : EntriesFit s lists
-  pub live-bands : LiveFit s
+  pub bands : s.j ≤ max_bands
+  pub live-bands : LiveFit (ticking_set s)
   pub phases-ok : phases_ok phases s.m ≡ true
 
--- of a call: its inputs are as long as its block, and question 16 is answered yes
+-- of a call: it is a block, its inputs are as long as it, and question 16 is answered yes
 pub record CallFits (c : Call) : Type 0 where
+  pub block : (c.shape.samples ≤ max_samples) × (1 ≤ c.shape.channels) × (c.shape.channels ≤ max_channels)
   pub inputs : inputs_ok c ≡ true
   pub frequencies : frequencies_ok c.shape.freq c.freq ≡ true
+
+-- ---- what a channel reads at a sample, and which parts of a call's inputs it reads
+abbrev pub frequency_in : Inputs → ℕ → Float
+frequency_in parts = frequency_of parts.freq.now
+
+abbrev pub gains_in : Inputs → ℕ → List Float
+gains_in parts = gains_of parts.g0.now parts.g1.now parts.g2.now parts.g3.now
+
+pub record PartsOf (c : Call) (ch : ℕ) (parts : Inputs) : Type 0 where
+  pub freq : parts.freq.now ≡ part_of c.shape.freq c.freq c.shape.samples ch
+  pub g0 : parts.g0.now ≡ part_of c.shape.g0 c.g0 c.shape.samples ch
+  pub g1 : parts.g1.now ≡ part_of c.shape.g1 c.g1 c.shape.samples ch
+  pub g2 : parts.g2.now ≡ part_of c.shape.g2 c.g2 c.shape.samples ch
+  pub g3 : parts.g3.now ≡ part_of c.shape.g3 c.g3 c.shape.samples ch
 
 -- ---- before sample i
 unfoldable pub phases_at : Voice → (ℕ → Float) → ℕ → List Float
@@ -71,6 +92,21 @@ partials_voice s lists partials phases = voice_of s lists partials [] (state_of 
 abbrev pub noise_voice : Setting → List Float → List Float → List Float → Rng → Voice
 noise_voice s lists noise memories rng = voice_of s lists [] noise (state_of [] memories rng)
 
+-- ---- the voice of a timbre in a state, with the bands that tick, and what of it each pass reads
+abbrev pub toned : Timbre → State → Voice
+toned t s = voice_of (ticking_set t.set.now) t.lists.now t.partials.now t.noise.now s
+
+abbrev pub partials_of : Timbre → List Float → Voice
+partials_of t phases = partials_voice t.set.now t.lists.now t.partials.now phases
+
+abbrev pub noise_of : Timbre → List Float → Rng → Voice
+noise_of t memories rng = noise_voice (ticking_set t.set.now) t.lists.now t.noise.now memories rng
+
+-- the bands that tick, as they are handed to the pass
+pub record LiveOf (s : Setting) (live : Live) : Type 0 where
+  pub count : live.count ≡ (ticking_set s).live_count
+  pub bands : live.bands ≡ (ticking_set s).live
+
 -- ---- what a pass and a channel promise, by their frequencies, gains and number of samples: the state that they leave, and the samples
 pub record PartialsPlayed (v : Voice) (freq : ℕ → Float) (g : ℕ → List Float) (n : ℕ) (phases out : List Float) : Type 0 where
   pub moves : phases ≡ phases_at v freq n
@@ -83,11 +119,10 @@ pub record NoisePlayed (v : Voice) (freq : ℕ → Float) (g : ℕ → List Floa
   pub rings : memories ≡ memories_at v n
   pub written : out ≡ noise_out v freq g ys n
 
-pub record ChannelPlayed (v : Voice) (freq : ℕ → Float) (g : ℕ → List Float) (n : ℕ)
-    (rng : Rng) (phases memories out : List Float) : Type 0 where
-  pub ends : state_of phases memories rng ≡ state_at v freq n
+pub record ChannelPlayed (v : Voice) (freq : ℕ → Float) (g : ℕ → List Float) (n : ℕ) (end : State) (out : List Float) : Type 0 where
+  pub ends : end ≡ state_at v freq n
   pub written : out ≡ channel_out v freq g n
 
-pub record BlockPlayed (v : Voice) (c : Call) (rng : Rng) (phases memories out : List Float) : Type 0 where
-  pub ends : state_of phases memories rng ≡ block_end v c
+pub record BlockPlayed (v : Voice) (c : Call) (end : State) (out : List Float) : Type 0 where
+  pub ends : end ≡ block_end v c
   pub written : out ≡ block_out v c

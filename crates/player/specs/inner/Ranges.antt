@@ -1,5 +1,6 @@
 -- Ranges of phases, steps and sides, as facts. Cited by private functions and proofs only.
-use Rattle.std.specs.Prelude.{ℕ, ◌<◌, List, get_or, Float}
+use Rattle.std.specs.Prelude.{ℕ, ◌<◌, ◌≤◌, ◌≡◌, false, List, length, get_or, Float}
+use Rattle.std.specs.Float.Ieee.{le}
 use Rattle.std.specs.Float.{nan}
 use Rattle.float.specs.inner.Range.{Within}
 pub use Rattle.filters.specs.inner.Ranges.{Phase}
@@ -21,3 +22,7 @@ pub record AllSteps (incs : List Float) (m : ℕ) : Type 0 where
 pub record SidesIn (n : ℕ) (s : Sides) : Type 0 where
   pub low : s.lo < n
   pub high : s.hi < n
+
+-- from index i on no pitch is at or below f0
+abbrev pub NoneNotAbove : List Float → Float → ℕ → Type 0
+NoneNotAbove pitches f0 i = (k : ℕ) → i ≤ k → k < length pitches → le (get_or pitches k nan) f0 ≡ false

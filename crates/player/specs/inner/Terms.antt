@@ -8,7 +8,10 @@ use Rattle.player.specs.Fade.{nyquist_fade}
 use Rattle.player.specs.Phase.{advance_of, partial_freq, step_of}
 use Rattle.player.specs.Sound.{add_single, blend_coeff, partial_row, add_noise_single, blend_power}
 use Rattle.player.specs.declared.constants.Constants.{Constants}
-use Rattle.player.specs.declared.pitch.kept.Pitch.{Pitch}
+use Rattle.player.specs.declared.noise.bands.BandColumns.{BandColumns}
+use Rattle.player.specs.declared.tuning.NoiseTuning.{NoiseTuning}
+use Rattle.player.specs.declared.tuning.Tuning.{Tuning}
+use Rattle.player.specs.declared.pitch.entries.Pitch.{Pitch}
 
 -- A single voice and a blend of k channels sound by one formula: a coefficient, a gain and the rest.
 -- The gain: of a single voice gain 0; of a blend 1, since the gains are in its coefficients. A product with 1 is the float itself.
@@ -23,16 +26,16 @@ abbrev pub band_coeff : ℕ → ℕ → (ℕ → Float) → List Float → Float
 band_coeff blend k row gains = cond (eqb blend 0) (row 0) (sqrt (blend_power row gains k))
 
 -- partial i, where row q of the rows holds channel q's coefficients between the two sides
-abbrev pub partial_added : ℕ → ℕ → List Float → Float → List Float → List Float → List Float → ℕ → Float → Float
-partial_added blend k rows mainlobe fades gains sines i y =
-    let coeff = sample_coeff blend k (λ q. get_or rows (q * 32 + i) nan) gains in
-    added y coeff (coeff ⊗ mainlobe ⊗ get_or fades i nan ⊗ term_gain blend gains ⊗ get_or sines i nan)
+abbrev pub partial_added : Constants → Tuning → List Float → List Float → ℕ → Float → Float
+partial_added x t gains sines i y =
+    let coeff = sample_coeff x.blend x.k (λ q. get_or t.rows (q * 32 + i) nan) gains in
+    added y coeff (coeff ⊗ t.mainlobe ⊗ get_or t.fades i nan ⊗ term_gain x.blend gains ⊗ get_or sines i nan)
 
 -- live band l, in the same way
-abbrev pub noise_added : ℕ → ℕ → List Float → List Float → Float → List Float → List Float → ℕ → Float → Float
-noise_added blend k rows gains noise_gain makeup filtered l y =
-    add_noise_single y (band_coeff blend k (λ q. get_or rows (q * 32 + l) nan) gains) (term_gain blend gains) noise_gain (get_or makeup l nan)
-    (get_or filtered l nan)
+abbrev pub noise_added : Constants → NoiseTuning → List Float → BandColumns → ℕ → Float → Float
+noise_added x t gains bands l y =
+    add_noise_single y (band_coeff x.blend x.k (λ q. get_or t.rows (q * 32 + l) nan) gains) (term_gain x.blend gains) t.noise_gain
+    (get_or bands.makeup l nan) (get_or bands.ys l nan)
 
 -- partial i by itself, where p is what the frequency decides and phases are those before the sample
 abbrev pub sample_added : Constants → Pitch → List Float → List Float → List Float → ℕ → Float → Float

@@ -1,92 +1,64 @@
-// The live bands of a voice as columns: place l belongs to live band l, that is to band `live[l]`.
-ghost use Rattle.std.specs.Prelude.{◌≡◌, ◌≤◌, ◌<◌, ◌+◌, ◌*◌, length, get_or};
+// The live bands of a voice as columns: place l belongs to live band l, that is to band `live.bands[l]`.
+ghost use Rattle.std.specs.Prelude.{◌≡◌, ◌≤◌, ◌<◌, ◌+◌, ◌*◌, get_or};
 ghost use Rattle.std.specs.Float.{nan};
-ghost use Rattle.player.specs.inner.Columns.{LiveIn, Memories, Coeffs, Ticked, scattered, Filled, FilledRows};
-ghost use Rattle.voice.specs.Limits.{max_bands};
+ghost use Rattle.player.specs.inner.Columns.{LiveFits, Memories, Coeffs, Ticked, scattered, Filled};
+ghost use Rattle.player.specs.inner.Bands.{Gathered, Ticks};
 ghost use Rattle.voice.specs.Voice.{bands_at};
 
-use voice::{BANDS_AT, LISTS_PLACES, band_of};
+use crate::bands::Live;
+use crate::columns::fill_rows;
+use voice::{BANDS_AT, COMPENSATIONS, LISTS_PLACES, band_of, list_of};
+
+// Two memories, five coefficients in rows of 32 places, a compensation and the last output of each.
+#[derive(Clone, Copy)]
+pub struct BandColumns {
+    z1: [f32; 32],
+    z2: [f32; 32],
+    coeffs: [f32; 160],
+    pub makeup: [f32; 32],
+    pub ys: [f32; 32],
+}
 
 // The memories of the live bands, which lie two a band in 32 places.
-pub fn gather_memories(
-    z1: &mut [f32; 32],
-    z2: &mut [f32; 32],
-    memories: &[f32; 32],
-    live: &[u8; 16],
-    n: usize,
-)
-    requires { (n ≤ max_bands) × LiveIn live.now n }
-    ensures { Memories z1.new z2.new memories.now live.now n
-        × (length memories.now ≡ 32) }
+fn gather_memories(z1: &mut [f32; 32], z2: &mut [f32; 32], memories: &[f32; 32], live: &Live)
+    requires { LiveFits live.now }
+    ensures { Memories z1.new z2.new memories.now live.now.bands live.now.count }
 {
-    let ms = &memories[..];
-    let s1 = &mut z1[..];
-    let s2 = &mut z2[..];
-    let mut l = 0;
-    while l < n {
-        let at = band_of(live[l]) * 2;
-        s1[l] = ms[at];
-        s2[l] = ms[at + 1];
-        l += 1;
+    for l in 0..live.count {
+        let at = band_of(live.bands[l]) * 2;
+        z1[l] = memories[at];
+        z2[l] = memories[at + 1];
     }
 }
 
-// Row q, after the q rows before it: their coefficient q, in the order b0, b1, b2, a1, a2.
-fn gather_row(
-    coeffs: &mut [f32; 160],
-    lists: &[f32; LISTS_PLACES],
-    live: &[u8; 16],
-    q: usize,
-    n: usize,
-)
-    requires { (q < 5) × (n ≤ max_bands) × LiveIn live.now n
-        × FilledRows coeffs.old (λ q l. get_or lists.now (bands_at + get_or live.now l 0 * 5 + q) nan) q n }
-    ensures { FilledRows coeffs.new (λ q l. get_or lists.now (bands_at + get_or live.now l 0 * 5 + q) nan)
-        (q + 1) n }
+// Their coefficients, in five rows: b0, b1, b2, a1, a2.
+fn gather_coeffs(coeffs: &mut [f32; 160], lists: &[f32; LISTS_PLACES], live: &Live)
+    requires { LiveFits live.now }
+    ensures { Coeffs coeffs.new lists.now live.now.bands live.now.count }
 {
-    let places = &mut coeffs[..];
-    let mut l = 0;
-    while l < n {
-        let from = BANDS_AT + band_of(live[l]) * 5 + q;
-        let to = q * 32 + l;
-        places[to] = lists[from];
-        l += 1;
-    }
-}
-
-// Their coefficients, in five rows.
-pub fn gather_coeffs(
-    coeffs: &mut [f32; 160],
-    lists: &[f32; LISTS_PLACES],
-    live: &[u8; 16],
-    n: usize,
-)
-    requires { (n ≤ max_bands) × LiveIn live.now n }
-    ensures { Coeffs coeffs.new lists.now live.now n }
-{
-    let mut q = 0;
-    while q < 5 {
-        gather_row(coeffs, lists, live, q, n);
-        q += 1;
-    }
+    fill_rows(
+        &mut coeffs[..],
+        5,
+        live.count,
+        |q, l|
+            requires { LiveFits live.now × (q < 5) × (l < live.now.count) }
+            ensures { result ≡ get_or lists.entry.now (bands_at + get_or live.entry.now.bands l 0 * 5 + q) nan }
+        { lists[BANDS_AT + band_of(live.bands[l]) * 5 + q] },
+    );
 }
 
 // Their compensations.
-pub fn gather_makeup(makeup: &mut [f32; 32], compensation: &[f32; 16], live: &[u8; 16], n: usize)
-    requires { (n ≤ max_bands) × LiveIn live.now n }
-    ensures { Filled makeup.new (λ l. get_or compensation.now (get_or live.now l 0) nan) n }
+fn gather_makeup(makeup: &mut [f32; 32], compensation: &[f32; 16], live: &Live)
+    requires { LiveFits live.now }
+    ensures { Filled makeup.new (λ l. get_or compensation.now (get_or live.now.bands l 0) nan) live.now.count }
 {
-    let s = &mut makeup[..];
-    let mut l = 0;
-    while l < n {
-        let b = band_of(live[l]);
-        s[l] = compensation[b];
-        l += 1;
+    for l in 0..live.count {
+        makeup[l] = compensation[band_of(live.bands[l])];
     }
 }
 
 // One sample x of n filters, each as `BiquadState::tick`.
-pub fn tick_bands(
+fn tick_bands(
     ys: &mut [f32; 32],
     z1: &mut [f32; 32],
     z2: &mut [f32; 32],
@@ -95,39 +67,62 @@ pub fn tick_bands(
     n: usize,
 )
     requires { n ≤ 32 }
-    ensures { Ticked ys.new z1.new z2.new z1.old z2.old coeffs.now x
-        n }
+    ensures { Ticked ys.new z1.new z2.new z1.old z2.old coeffs.now x n }
 {
-    let s = &mut ys[..];
-    let s1 = &mut z1[..];
-    let s2 = &mut z2[..];
-    let mut l = 0;
-    while l < n {
-        let y = coeffs[l] * x + s1[l];
-        s1[l] = coeffs[32 + l] * x - coeffs[96 + l] * y + s2[l];
-        s2[l] = coeffs[64 + l] * x - coeffs[128 + l] * y;
-        s[l] = y;
-        l += 1;
+    for l in 0..n {
+        let y = coeffs[l] * x + z1[l];
+        z1[l] = coeffs[32 + l] * x - coeffs[96 + l] * y + z2[l];
+        z2[l] = coeffs[64 + l] * x - coeffs[128 + l] * y;
+        ys[l] = y;
     }
 }
 
 // The columns back into the memories of the live bands.
-pub fn scatter_memories(
-    memories: &mut [f32; 32],
-    live: &[u8; 16],
-    z1: &[f32; 32],
-    z2: &[f32; 32],
-    n: usize,
-)
-    requires { (n ≤ max_bands) × LiveIn live.now n }
-    ensures { memories.new ≡ scattered live.now z1.now z2.now memories.old n }
+fn scatter_memories(memories: &mut [f32; 32], live: &Live, z1: &[f32; 32], z2: &[f32; 32])
+    requires { LiveFits live.now }
+    ensures { memories.new ≡ scattered live.now.bands z1.now z2.now memories.old live.now.count }
 {
-    let s = &mut memories[..];
-    let mut l = 0;
-    while l < n {
-        let at = band_of(live[l]) * 2;
-        s[at] = z1[l];
-        s[at + 1] = z2[l];
-        l += 1;
+    for l in 0..live.count {
+        let at = band_of(live.bands[l]) * 2;
+        memories[at] = z1[l];
+        memories[at + 1] = z2[l];
+    }
+}
+
+impl BandColumns {
+    pub fn new() -> BandColumns {
+        BandColumns {
+            z1: [0.0; 32],
+            z2: [0.0; 32],
+            coeffs: [0.0; 160],
+            makeup: [0.0; 32],
+            ys: [0.0; 32],
+        }
+    }
+
+    // The columns of these live bands.
+    pub fn gather(&mut self, lists: &[f32; LISTS_PLACES], memories: &[f32; 32], live: &Live)
+        requires { LiveFits live.now }
+        ensures { Gathered self.new lists.now memories.now live.now }
+    {
+        gather_memories(&mut self.z1, &mut self.z2, memories, live);
+        gather_coeffs(&mut self.coeffs, lists, live);
+        gather_makeup(&mut self.makeup, &list_of(lists, COMPENSATIONS), live);
+    }
+
+    // One sample x of n of them.
+    pub fn tick(&mut self, x: f32, n: usize)
+        requires { n ≤ 32 }
+        ensures { Ticks self.old self.new x n }
+    {
+        tick_bands(&mut self.ys, &mut self.z1, &mut self.z2, &self.coeffs, x, n);
+    }
+
+    // Back into the memories.
+    pub fn scatter(&self, memories: &mut [f32; 32], live: &Live)
+        requires { LiveFits live.now }
+        ensures { memories.new ≡ scattered live.now.bands self.now.z1 self.now.z2 memories.old live.now.count }
+    {
+        scatter_memories(memories, live, &self.z1, &self.z2);
     }
 }

@@ -1,45 +1,35 @@
 // The partials of a channel's samples where they are few: one after the other, with nothing laid out beforehand.
 ghost use Rattle.std.specs.Prelude.{◌≡◌, true, ◌≤◌, length};
-ghost use Rattle.voice.specs.Input.{frequency_of, gains_of};
 ghost use Rattle.voice.specs.Voice.{phases_ok};
-ghost use Rattle.player.specs.inner.Passes.{EntriesFit, FrequenciesFit, PartialsPlayed, partials_voice};
+ghost use Rattle.player.specs.inner.Passes.{EntriesFit, FrequenciesFit, PartialsPlayed, frequency_in, gains_in, partials_of};
 
-use crate::constants::constants_of;
+use crate::constants::Constants;
 use crate::input::{frequency_at, gains_for};
 use crate::partials::sample::sample_of;
-use crate::pitch::kept::{no_pitch, pitch_kept};
-use voice::{LISTS_PLACES, MAINLOBE_GAINS, PITCHES, STRETCHES, Setting, list_of};
+use crate::pitch::entries::{Entries, Pitch};
+use crate::timbre::Timbre;
+use voice::Inputs;
 use wave_table::table;
 
-pub fn partials_one_by_one(
-    set: Setting,
-    lists: &[f32; LISTS_PLACES],
-    partials: &[f32; 2048],
+pub fn partials_one_by_one<'a>(
+    timbre: Timbre<'a>,
     phases: &mut [f32; 32],
-    freq: &[f32],
-    g0: &[f32],
-    g1: &[f32],
-    g2: &[f32],
-    g3: &[f32],
+    inputs: Inputs<'a>,
     out: &mut [f32],
 )
-    requires { EntriesFit set lists.now × (phases_ok phases.old set.m ≡ true) × (1 ≤ set.count) × FrequenciesFit freq.now }
-    ensures { PartialsPlayed (partials_voice set lists.now partials.now phases.old)
-        (frequency_of freq.now) (gains_of g0.now g1.now g2.now g3.now)
+    requires { EntriesFit timbre.set.now timbre.lists.now × (phases_ok phases.old timbre.set.now.m ≡ true)
+        × (1 ≤ timbre.set.now.count) × FrequenciesFit inputs.freq.now }
+    ensures { PartialsPlayed (partials_of timbre.entry phases.old) (frequency_in inputs.entry) (gains_in inputs.entry)
         (length out.old) phases.new out.new }
 {
-    let f0_hz = list_of(lists, PITCHES);
-    let stretch = list_of(lists, STRETCHES);
-    let mainlobe_gain = list_of(lists, MAINLOBE_GAINS);
+    let entries = Entries::of(timbre);
+    let x = Constants::of(timbre.set);
     let wave = table();
-    let v = constants_of(set.blend, set.k, set.m, set.sample_rate);
-    let mut p = no_pitch();
-    let mut i = 0;
-    while i < out.len() {
-        let f0 = frequency_at(freq, i);
-        let g = gains_for(set.blend, g0, g1, g2, g3, i);
-        p = pitch_kept(p, &f0_hz, &stretch, &mainlobe_gain, set.count, f0);
-        out[i] = sample_of(phases, partials, &wave, &g, v, p);
-        i += 1;
+    let mut kept: Option<Pitch> = None;
+    for (i, sample) in out.iter_mut().enumerate() {
+        let gains = gains_for(x.blend, inputs, i);
+        let p = entries.pitch_kept(kept, frequency_at(inputs, i));
+        *sample = sample_of(phases, timbre.partials, &wave, &gains, x, p);
+        kept = Some(p);
     }
 }

@@ -18,7 +18,7 @@ use crate::input::term_gain;
 use crate::partials::fade::nyquist_fade;
 use crate::partials::phase::{advance, partial_freq};
 use crate::pitch::bracket::{Sides, place_between};
-use crate::pitch::kept::Pitch;
+use crate::pitch::entries::Pitch;
 use filters::sine;
 
 // The sum of the gains times the coefficients of partial i, over k channels.
@@ -35,11 +35,9 @@ fn blend_coeff<'a>(
 {
     let all = &partials[..];
     let mut y: f32 = 0.0;
-    let mut q = 0;
-    while q < k {
+    for q in 0..k {
         let at = q * 32 + i;
         y = y + gains[q] * place_between(all, s, 128, at);
-        q += 1;
     }
     y
 }
@@ -92,27 +90,25 @@ pub fn sample_of<'a>(
     partials: &'a [f32; 2048],
     wave: &'a [u32; 257],
     gains: &'a [f32; 4],
-    v: Constants,
+    x: Constants,
     p: Pitch,
 ) -> f32
-    requires table { Table wave.now × SidesIn max_entries p.s × (v.k ≤ max_blended) × (v.m ≤ max_partials)
-        × (phases_ok phases.old v.m ≡ true) }
-    requires within { Within max_hz 1 p.f0 × Within 8 1 p.stretch × Within 1 4096 v.inv }
+    requires table { Table wave.now × SidesIn max_entries p.s × (x.k ≤ max_blended) × (x.m ≤ max_partials)
+        × (phases_ok phases.old x.m ≡ true) }
+    requires within { Within max_hz 1 p.f0 × Within 8 1 p.stretch × Within 1 4096 x.inv }
     ensures value { result ≡ steps
-        (λ i y. sample_added v p partials.now gains.now phases.old i y) (quotient 0 1) v.m }
-    ensures phases_after { phases.new ≡ map_to (λ i ph. advance_of ph (step_of (i + 1) p.f0 p.stretch v.inv)) 0 v.m
+        (λ i y. sample_added x p partials.now gains.now phases.old i y) (quotient 0 1) x.m }
+    ensures phases_after { phases.new ≡ map_to (λ i ph. advance_of ph (step_of (i + 1) p.f0 p.stretch x.inv)) 0 x.m
         phases.old }
 {
-    let gain = term_gain(v.blend, gains);
+    let gain = term_gain(x.blend, gains);
     let mut y: f32 = 0.0;
-    let mut i = 0;
-    while i < v.m {
+    for i in 0..x.m {
         let freq = partial_freq((i + 1) as u32, p.f0, p.stretch);
-        let phase = advance(phases[i], freq * v.inv);
+        let phase = advance(phases[i], freq * x.inv);
         phases[i] = phase;
-        let coeff = partial_coeff(partials, gains, v.blend, v.k, p.s, i);
-        y = add_partial(wave, y, coeff, p.mainlobe, freq, v.nyquist, gain, phase);
-        i += 1;
+        let coeff = partial_coeff(partials, gains, x.blend, x.k, p.s, i);
+        y = add_partial(wave, y, coeff, p.mainlobe, freq, x.nyquist, gain, phase);
     }
     y
 }

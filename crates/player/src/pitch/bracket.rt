@@ -1,12 +1,13 @@
 // The entries between which a frequency lies.
-ghost use Rattle.std.specs.Prelude.{◌≡◌, true, false, ◌≤◌, ◌<◌, ◌+◌, ◌*◌, length, get_or};
+ghost use Rattle.std.specs.Prelude.{◌≡◌, true, false, ◌≤◌, ◌<◌, ◌+◌, ◌*◌, length, get_or, MatchOption};
 ghost use Rattle.std.specs.Float.{nan};
 ghost use Rattle.std.specs.Float.Ieee.{le};
 ghost use Rattle.float.specs.inner.Range.{Within};
 ghost use Rattle.voice.specs.Lists.{every};
 ghost use Rattle.player.specs.Share.{share_of};
 ghost use Rattle.voice.specs.Voice.{pitch_ok};
-ghost use Rattle.player.specs.Bracket.{not_above, bracket_of, sides_of, value_between, place_between};
+ghost use Rattle.player.specs.Bracket.{bracket_of, sides_of, value_between, place_between};
+ghost use Rattle.player.specs.inner.Ranges.{NoneNotAbove};
 ghost use Rattle.player.specs.inner.Ranges.{SidesIn};
 ghost use Rattle.voice.specs.Limits.{max_entries, max_hz};
 
@@ -25,19 +26,12 @@ pub struct Sides {
     pub t: f32,
 }
 
-// One more than the index of the last of the first n pitches that is not above f0; 0 where there is none.
-fn not_above(f0_hz: &[f32; 16], n: usize, f0: f32) -> usize
-    requires { n ≤ max_entries }
-    ensures { (result ≡ not_above f0_hz.now f0 n) × (result ≤ n) }
+// The last of these pitches that is not above f0.
+fn last_not_above(pitches: &[f32], f0: f32) -> Option<usize>
+    ensures { MatchOption result (NoneNotAbove pitches.now f0 0) (λ i. (i < length pitches.now) × (le (get_or pitches.now i nan) f0 ≡ true)
+        × NoneNotAbove pitches.now f0 (i + 1)) }
 {
-    let mut k = n;
-    while 0 < k {
-        if f0_hz[k - 1] <= f0 {
-            return k;
-        }
-        k -= 1;
-    }
-    0
+    pitches.iter().rposition(|pitch| *pitch <= f0)
 }
 
 // The share of f0 between two pitches.
@@ -60,13 +54,10 @@ pub fn bracket_at(f0_hz: &[f32; 16], count: usize, f0: f32) -> Bracket
     if f0_hz[last] <= f0 {
         return Bracket::One(last);
     }
-    let k = not_above(f0_hz, last, f0);
-    if k == 0 {
-        return Bracket::One(0);
+    match last_not_above(&f0_hz[..last], f0) {
+        None => Bracket::One(0),
+        Some(lo) => Bracket::Between(lo, lo + 1, share(f0_hz[lo], f0, f0_hz[lo + 1])),
     }
-    let lo = k - 1;
-    let t = share(f0_hz[lo], f0, f0_hz[k]);
-    Bracket::Between(lo, k, t)
 }
 
 pub fn both_sides(b: Bracket) -> Sides
@@ -80,15 +71,6 @@ pub fn both_sides(b: Bracket) -> Sides
         },
         Bracket::Between(lo, hi, t) => Sides { lo, hi, t },
     }
-}
-
-// The sides of f0 among count pitches.
-pub fn sides_at(f0_hz: &[f32; 16], count: usize, f0: f32) -> Sides
-    requires { (1 ≤ count) × (count ≤ max_entries) × (every (λ i. pitch_ok (get_or f0_hz.now i nan)) count ≡ true) × Within max_hz 1 f0 }
-    ensures value { result ≡ sides_of (bracket_of f0_hz.now count f0) }
-    ensures sides_in { SidesIn count result × Within 1 1 result.t }
-{
-    both_sides(bracket_at(f0_hz, count, f0))
 }
 
 // A value between those of the two sides.

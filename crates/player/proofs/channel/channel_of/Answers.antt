@@ -1,18 +1,27 @@
 -- `channel_of` meets its contract.
-use lib.ListN.{length}
+use Rattle.std.proofs.Common.{length, sym, ◌∙◌}
 use borrow.Author.Tests.{eq-eqb, ne_eqb}
-use Rattle.voice.specs.Input.{frequency_of, gains_of}
-use Rattle.player.proofs.ChannelLaws.{ends-still, ends-partials, ends-noisy}
+use lib.Ieee.{of_bits, round}
+use Rattle.player.specs.inner.Passes.{frequency_in, gains_in}
+use Rattle.player.proofs.ChannelLaws.{silence-is, ends-still, ends-partials, ends-noisy}
 use Rattle.player.proofs.channel.channel_of.Goals as goal
 
-pub returns-then-set-eq0 : goal.returns-then-set-eq0
-returns-then-set-eq0 c =
-    ends-still c.args.set c.args.lists.now c.args.partials.now c.args.noise.now c.args.phases.now c.args.memories.now c.args.rng (frequency_of c.args.freq.now) (gains_of c.args.g0.now c.args.g1.now c.args.g2.now c.args.g3.now) (length c.args.out.now) (eq-eqb _ _ c.if-set-eq0.true) _ c.silence.ensures
+pub returns-then-timbre-eq0 : goal.returns-then-timbre-eq0
+unfolding of_bits round
+returns-then-timbre-eq0 c =
+    let a = c.args in
+    let n = length a.out.now in
+    ends-still a.timbre a.state.now (frequency_in a.inputs) (gains_in a.inputs) n (eq-eqb _ _ c.if-timbre-eq0.true) _
+    (silence-is n _ (c.fill.ensures.after (λ y e. e)))
 
-pub returns-then-set-eq0-2 : goal.returns-then-set-eq0-2
-returns-then-set-eq0-2 c =
-    ends-partials c.args.set c.args.lists.now c.args.partials.now c.args.noise.now c.args.phases.now c.args.memories.now c.args.rng (frequency_of c.args.freq.now) (gains_of c.args.g0.now c.args.g1.now c.args.g2.now c.args.g3.now) (length c.args.out.now) (ne_eqb _ _ c.if-set-eq0.false) c.if-set-eq0-2.true _ _ c.all_partials.ensures
+pub returns-then-live-eq0 : goal.returns-then-live-eq0
+returns-then-live-eq0 c =
+    let a = c.args in
+    ends-partials a.timbre a.state.now (frequency_in a.inputs) (gains_in a.inputs) (length a.out.now) (ne_eqb _ _ c.if-timbre-eq0.false)
+    (sym c.live_of-live.ensures.count ∙ c.if-live-eq0.true) _ _ c.all_partials.ensures
 
 pub returns : goal.returns
 returns c =
-    ends-noisy c.args.set c.args.lists.now c.args.partials.now c.args.noise.now c.args.phases.now c.args.memories.now c.args.rng (frequency_of c.args.freq.now) (gains_of c.args.g0.now c.args.g1.now c.args.g2.now c.args.g3.now) (length c.args.out.now) (ne_eqb _ _ c.if-set-eq0.false) _ _ _ _ _ c.all_partials.ensures c.noise_pass.ensures
+    let a = c.args in
+    ends-noisy a.timbre a.state.now (frequency_in a.inputs) (gains_in a.inputs) (length a.out.now) (ne_eqb _ _ c.if-timbre-eq0.false) _ _ _ _ _
+    c.all_partials.ensures c.noise_pass-rng.ensures

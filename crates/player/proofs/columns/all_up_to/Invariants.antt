@@ -1,13 +1,8 @@
-use mathlib.Core.Path.{◌≡◌}
-use Prim.Native.Nat.{◌-◌, ◌≤◌}
-use lib.ListN.{get_or}
-use lib.Ieee.{nan}
+use Rattle.std.proofs.Common.{◌≡◌, get_or}
+use Rattle.std.specs.Float.{nan}
+use Rattle.std.specs.Float.Ieee.{le}
 use Rattle.voice.specs.Lists.{every}
-use lib.Ieee.{le}
 use Rattle.player.proofs.columns.all_up_to.Given as goal
 
-abbrev pub invariant-loop-i : goal.invariant-loop-i
-invariant-loop-i l = (l.i ≤ l.n) × (l.ok ≡ every (λ i'. le (get_or l.xs i' nan) l.limit) l.i)
-
-abbrev pub decreases-loop-i : goal.decreases-loop-i
-decreases-loop-i l = l.n - l.i
+abbrev pub invariant-loop-x : goal.invariant-loop-x
+invariant-loop-x l = l.ok ≡ every (λ i. le (get_or l.xs i nan) l.limit) l.x-index

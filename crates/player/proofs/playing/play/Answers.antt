@@ -1,16 +1,16 @@
 -- `play` meets its contract.
-use Rattle.voice.specs.Input.{call}
-use Rattle.player.proofs.PlayLaws.{voice-refused, voice-played}
+use Rattle.std.proofs.Common.{sym, length}
+use Rattle.voice.specs.Input.{call_of}
+use Rattle.voice.specs.Question.{play_question}
+use Rattle.voice.proofs.QuestionLaws.{play-accepted, block-is}
+use Rattle.player.proofs.SoundLaws.{voice-fits}
 use Rattle.player.proofs.playing.play.Goals as goal
 
-pub returns-then-refused : goal.returns-then-refused
-returns-then-refused c =
+pub block_of-requires : goal.block_of-requires
+unfolding play_question
+block_of-requires c =
     let a = c.args in
-    let k = call a.b a.freq.now a.g0.now a.g1.now a.g2.now a.g3.now in
-    voice-refused a.voice k a.out.now c.play_parts-m.result _ _ _ c.play_parts-m.ensures c.if-refused.true
-
-pub returns : goal.returns
-returns c =
-    let a = c.args in
-    let k = call a.b a.freq.now a.g0.now a.g1.now a.g2.now a.g3.now in
-    voice-played a.voice k a.out.now c.play_parts-m.result _ _ _ c.play_parts-m.ensures c.if-refused.false
+    let v = a.voice.now in
+    let h = play-accepted v (call_of a.shape a.inputs) (length a.out.now) (sym c.in_ok-play_question.ensures) in
+    let k = block-is a.shape.samples a.shape.channels (length a.out.now) h.1.block in
+    (voice-fits v h.0, record { block = (k.0, k.1, k.2); inputs = h.1.inputs; frequencies = h.1.frequencies }, k.3)

@@ -1,12 +1,7 @@
-use mathlib.Core.Path.{◌≡◌}
-use Prim.Native.Nat.{◌-◌, ◌≤◌}
-use lib.ListN.{length, get_or}
-use lib.Ieee.{nan}
+use Rattle.std.proofs.Common.{◌≡◌, length, get_or}
+use Rattle.std.specs.Float.{nan}
 use Rattle.player.specs.inner.Columns.{Filled}
 use Rattle.player.proofs.noise.bands.gather_makeup.Given as goal
 
 abbrev pub invariant-loop-l : goal.invariant-loop-l
-invariant-loop-l l = (l.l ≤ l.n) × (length l.s ≡ 32) × Filled l.s (λ l'. get_or l.compensation (get_or l.live l' 0) nan) l.l
-
-abbrev pub decreases-loop-l : goal.decreases-loop-l
-decreases-loop-l l = l.n - l.l
+invariant-loop-l l = (length l.makeup ≡ 32) × Filled l.makeup (λ i. get_or l.compensation (get_or l.live.bands i 0) nan) l.l

@@ -11,26 +11,25 @@ use Rattle.player.proofs.noise.bands.tick_bands.Goals as goal
 
 pub loop-l-init : goal.loop-l-init
 loop-l-init c =
-    (omega arith, search rules, search rules, search rules, kept-all _, kept-all _, record { at = λ l h. absurd (omega arith) })
+    (search rules, search rules, search rules, kept-all _, kept-all _, record { at = λ l h. absurd (omega arith) })
 
 pub loop-l-preserved : goal.loop-l-preserved
 unfolding tick_of
 loop-l-preserved c =
     let a = c.args in
-    let s1 = c.loop-l.s1 in
-    let s2 = c.loop-l.s2 in
+    let s1 = c.loop-l.z1 in
+    let s2 = c.loop-l.z2 in
     let l = c.loop-l.l in
     let I = c.loop-l.invariant in
     let C = coeffs_of_rows a.coeffs.now l in (
-      omega (arith, c.loop-l-test.true),
+      simp length-set I.0,
       simp length-set I.1,
       simp length-set I.2,
-      simp length-set I.3,
-      kept_again s1 a.z1.now l _ I.4,
-      kept_again s2 a.z2.now l _ I.5,
-      ticked-again c.loop-l.s s1 s2 a.z1.now a.z2.now a.coeffs.now a.x l (tick_of (state_of_columns s1 s2 l) a.x C) I.1 I.2 I.3 (omega (arith, c.loop-l-test.true, c.requires)) (ap (λ (m : BiquadState). tick_of m a.x C) (state-kept s1 s2 a.z1.now a.z2.now l I.4 I.5)) I.6,
+      kept_again s1 a.z1.now l _ I.3,
+      kept_again s2 a.z2.now l _ I.4,
+      ticked-again c.loop-l.ys s1 s2 a.z1.now a.z2.now a.coeffs.now a.x l (tick_of (state_of_columns s1 s2 l) a.x C) I.0 I.1 I.2 (omega arith) (ap (λ (m : BiquadState). tick_of m a.x C) (state-kept s1 s2 a.z1.now a.z2.now l I.3 I.4)) I.5,
     )
 
 pub returns : goal.returns
 returns c =
-    ticked-full c.loop-l.s c.loop-l.s1 c.loop-l.s2 _ _ _ _ c.loop-l.l _ (omega arith) c.loop-l.invariant.6
+    ticked-full c.loop-l.ys c.loop-l.z1 c.loop-l.z2 _ _ _ _ c.loop-l.l _ (omega arith) c.loop-l.invariant.5

@@ -1,5 +1,4 @@
-use mathlib.Core.Path.{◌≡◌}
-use Prim.Native.Nat.{◌-◌, ◌+◌, ◌≤◌}
+use Rattle.std.proofs.Common.{◌≡◌, ◌+◌}
 use Rattle.float.specs.F32.{quotient}
 use Rattle.voice.specs.Lists.{steps, map_to}
 use Rattle.player.specs.Phase.{advance_of, step_of}
@@ -8,8 +7,5 @@ use Rattle.player.proofs.partials.sample.sample_of.Given as goal
 
 abbrev pub invariant-loop-i : goal.invariant-loop-i
 invariant-loop-i l =
-    (l.i ≤ l.v.m) × (l.phases ≡ map_to (λ i' ph. advance_of ph (step_of (i' + 1) l.p.f0 l.p.stretch l.v.inv)) 0 l.i l.initial.phases)
-    × (l.y ≡ steps (λ i' y'. sample_added l.v l.p l.partials l.gains l.initial.phases i' y') (quotient 0 1) l.i)
-
-abbrev pub decreases-loop-i : goal.decreases-loop-i
-decreases-loop-i l = l.v.m - l.i
+    (l.phases ≡ map_to (λ i ph. advance_of ph (step_of (i + 1) l.p.f0 l.p.stretch l.x.inv)) 0 l.i l.initial.phases)
+    × (l.y ≡ steps (λ i y. sample_added l.x l.p l.partials l.gains l.initial.phases i y) (quotient 0 1) l.i)

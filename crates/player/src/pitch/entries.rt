@@ -1,0 +1,79 @@
+// The entries of a voice, and what a frequency decides of them.
+ghost use Rattle.std.specs.Prelude.{◌≡◌, true};
+ghost use Rattle.std.specs.Float.Ieee.{eq};
+ghost use Rattle.float.specs.inner.Range.{Within};
+ghost use Rattle.voice.specs.Limits.{max_hz};
+ghost use Rattle.player.specs.inner.Tuning.{EntriesIn, PitchAt, entries_at, sides_in};
+ghost use Rattle.player.specs.inner.Ranges.{SidesIn};
+
+use crate::pitch::bracket::{Sides, both_sides, bracket_at, value_between};
+use crate::pitch::stretch::stretch_between;
+use crate::timbre::Timbre;
+use voice::{MAINLOBE_GAINS, NOISE_GAINS, PITCHES, STRETCHES, list_of};
+
+// What each of the first `count` entries has one of.
+#[derive(Clone, Copy)]
+pub struct Entries {
+    pub count: usize,
+    pub f0_hz: [f32; 16],
+    pub stretch: [f32; 16],
+    pub mainlobe_gain: [f32; 16],
+    pub noise_gain: [f32; 16],
+}
+
+// What a frequency decides: the sides, and the values between them.
+#[derive(Clone, Copy)]
+pub struct Pitch {
+    pub f0: f32,
+    pub s: Sides,
+    pub stretch: f32,
+    pub mainlobe: f32,
+}
+
+impl Entries {
+    pub fn of<'a>(timbre: Timbre<'a>) -> Entries
+        ensures { result ≡ entries_at timbre.entry.set.now timbre.entry.lists.now }
+    {
+        Entries {
+            count: timbre.set.count,
+            f0_hz: list_of(timbre.lists, PITCHES),
+            stretch: list_of(timbre.lists, STRETCHES),
+            mainlobe_gain: list_of(timbre.lists, MAINLOBE_GAINS),
+            noise_gain: list_of(timbre.lists, NOISE_GAINS),
+        }
+    }
+
+    // The sides of f0 among the entries.
+    pub fn sides_at(&self, f0: f32) -> Sides
+        requires { EntriesIn self.now × Within max_hz 1 f0 }
+        ensures value { result ≡ sides_in self.now f0 }
+        ensures inside { SidesIn self.now.count result × Within 1 1 result.t }
+    {
+        both_sides(bracket_at(&self.f0_hz, self.count, f0))
+    }
+
+    pub fn pitch_at(&self, f0: f32) -> Pitch
+        requires { EntriesIn self.now × Within max_hz 1 f0 }
+        ensures { PitchAt self.now f0 result }
+    {
+        let s = self.sides_at(f0);
+        Pitch {
+            f0,
+            s,
+            stretch: stretch_between(&self.stretch, s),
+            mainlobe: value_between(&self.mainlobe_gain, s),
+        }
+    }
+
+    // The same while the frequency stays.
+    pub fn pitch_kept(&self, was: Option<Pitch>, f0: f32) -> Pitch
+        requires entries_in { EntriesIn self.now × Within max_hz 1 f0 }
+        requires kept { (p : Pitch) → was ≡ Some p → eq f0 p.f0 ≡ true → PitchAt self.now f0 p }
+        ensures { PitchAt self.now f0 result }
+    {
+        match was {
+            Some(p) if f0 == p.f0 => p,
+            _ => self.pitch_at(f0),
+        }
+    }
+}

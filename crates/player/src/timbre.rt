@@ -1,0 +1,11 @@
+// What a play only reads of a voice.
+use voice::{LISTS_PLACES, Setting};
+
+// The voice's numbers as it is played by them, its short lists and its coefficients, where they lie: all of it but the running state.
+#[derive(Clone, Copy)]
+pub struct Timbre<'a> {
+    pub set: &'a Setting,
+    pub lists: &'a [f32; LISTS_PLACES],
+    pub partials: &'a [f32; 2048],
+    pub noise: &'a [f32; 1024],
+}
