@@ -8,7 +8,7 @@ use lib.Ieee.{Float, nan}
 use Rattle.player.specs.Bracket.{not_above, neighbours, bracket_of, sides_of, value_between}
 use Rattle.player.specs.inner.Ranges.{SidesIn}
 use Rattle.player.specs.declared.pitch.bracket.Sides.{Sides}
-use Rattle.player.proofs.BracketLaws.{not_above-in}
+use Rattle.claim.proofs.Neighbours.{not_above-in}
 use Rattle.claim.proofs.Sides.{sides-in}
 
 module _ (l r : List Float) (f0 : Float) where

@@ -1,3 +1,5 @@
+pub mod Neighbours
+pub mod LiveBands
 pub mod Memories
 pub mod Sides
 pub mod Rules

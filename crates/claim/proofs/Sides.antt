@@ -15,7 +15,7 @@ use Rattle.player.specs.declared.pitch.bracket.Bracket.TheVariants.{One}
 use Rattle.voice.specs.Voice.{pitch_ok, stretch_ok}
 use Rattle.player.specs.Bracket.{not_above, neighbours, bracket_of, sides_of, value_between}
 use Rattle.player.specs.inner.Ranges.{SidesIn}
-use Rattle.player.proofs.BracketLaws.{not_above-in, not_above-le, above-it}
+use Rattle.claim.proofs.Neighbours.{not_above-in, not_above-le, above-it}
 use Rattle.player.proofs.PhaseLaws.{share-within}
 use Rattle.player.proofs.RangeLaws.{pitch-within, not-le, stretch-ok-within}
 
