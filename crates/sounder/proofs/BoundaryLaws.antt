@@ -5,7 +5,7 @@ use mathlib.Core.List.{List}
 use native.Mathlib.Omega.{arith}
 use mathlib.Core.Bool.{Bool, true, false, cond}
 use lib.Dec.{eqb, leb}
-use lib.Ieee.{Float}
+use Rattle.std.specs.Prelude.{Result, Ok, Err}
 use lib.ListN.{length, drop, length-drop}
 use lib.Seq.{length-take-le}
 use Rattle.wire.specs.Parse.{Refusal, refusal, Parsed, ok, refused}
@@ -22,17 +22,8 @@ use Rattle.table.specs.Encode.{encode}
 use Rattle.table.specs.Name.{name_start}
 use Rattle.table.specs.Answer.{refusal_of}
 use Rattle.table.proofs.Spelled.{table-parts, header-parts}
-use Rattle.voice.specs.Input.{Call}
-use Rattle.voice.specs.Question.{accepted as accepted-by, ask}
-use Rattle.voice.specs.Restart.{restarted}
-use Rattle.voice.specs.Voice.{with_state, state_of, keeps_rules}
-use Rattle.voice.specs.declared.answer.Played.{Played}
-use Rattle.voice.specs.declared.answer.Restarted.{Restarted}
-use Rattle.voice.specs.declared.voice.State.{State}
-use Rattle.voice.specs.declared.voice.Voice.{Voice}
-use Rattle.player.specs.Playing.{played, Plays, PlaysParts}
-use Rattle.player.specs.declared.playing.Moved.{Moved}
-use Rattle.merging.specs.declared.tables.Merging.{Merging}
+use Rattle.table.specs.declared.rewrite.Written.{Written}
+use Rattle.merging.specs.declared.tables.MergeError.{MergeError}
 use Rattle.merging.specs.Merge.{MergeOutcome, written, first_refused, second_refused, merge_refused, joined, merging}
 use Rattle.merging.specs.Answer.{merging_outcome}
 use Rattle.merging.proofs.ResultLaws.{merging-apart}
@@ -84,31 +75,6 @@ numbered (CoeffTableCodecError.InconsistentNoiseBandSpan f i) h = absurd (omega 
 pub refused-apart : (e : CoeffTableCodecError) (a b : ℕ) → refusal_answer (refusal_of e) ≡ done a b → ⊥
 refused-apart e a b h = numbered e (ap (λ (x : Answer). x.number) h)
 
--- a call leaves of a voice all but its running state, refused or not: so who stores the state that it comes to has the voice that it comes to
-moved_in : (q n : ℕ) (v : Voice) (s x : State) → n ≡ q → x ≡ (accepted-by q (with_state v s) v).state
-    → ◌≡◌ {A = Played} (record { number = n; voice = with_state v x }) (record { number = q; voice = accepted-by q (with_state v s) v })
-moved_in zero n v s x e h = rw (e, h)
-moved_in (suc q) n v s x e h = rw (e, h)
-
--- a play of a voice where it lies: its phases and memories are left, and the noise number is stored
-pub plays-in : (v : Voice) (c : Call) (out : List Float) (m : Moved) (ps ms ys : List Float) → PlaysParts v c out m ps ms ys
-    → Plays v c out (record { number = m.number; voice = with_state v (state_of ps ms m.rng) }) ys
-unfolding played
-plays-in v c out m ps ms ys P = record { answered = moved_in _ _ v _ _ P.answered P.moves; written = P.written }
-
--- a reset or a reseed of one, s being the state after where it is accepted: the state that it comes to is stored
-state-accepted : (q : ℕ) (v : Voice) (s : State) → accepted-by q s v.state ≡ (accepted-by q (with_state v s) v).state
-state-accepted zero v s = refl
-state-accepted (suc q) v s = refl
-
-pub restarts-in : (v : Voice) (s : State) (r : Restarted) → r ≡ restarted v.set v.lists v.state s
-    → ◌≡◌ {A = Played} (record { number = r.number; voice = with_state v r.state })
-    (let q = ask (keeps_rules v) 13 0 in record { number = q; voice = accepted-by q (with_state v s) v })
-unfolding restarted
-restarts-in v s r e =
-    let q = ask (keeps_rules v) 13 0 in
-    moved_in q r.number v s r.state (ap (λ (x : Restarted). x.number) e) (ap (λ (x : Restarted). x.state) e ∙ state-accepted q v s)
-
 -- ---- a merge's answers, as they cross
 abbrev outcome_of : MergeAnswer → MergeOutcome
 outcome_of m =
@@ -116,16 +82,16 @@ outcome_of m =
     cond (eqb m.image 1) (first_refused r)
     (cond (eqb m.image 2) (second_refused r) (cond (eqb m.answer.number 0) (written m.answer.first m.answer.second) (merge_refused r)))
 
-outcome-back : (m : Merging) → outcome_of (merge_answer (merging_outcome m)) ≡ merging_outcome m
-outcome-back (Merging.Written n bytes) = refl
-outcome-back (Merging.FirstRefused e) = refl
-outcome-back (Merging.SecondRefused e) = refl
-outcome-back Merging.InconsistentSpans = refl
-outcome-back Merging.TooLong = refl
-outcome-back Merging.TargetTooShort = refl
+outcome-back : (m : Result Written MergeError) → outcome_of (merge_answer (merging_outcome m)) ≡ merging_outcome m
+outcome-back (Ok w) = refl
+outcome-back (Err (MergeError.First e)) = refl
+outcome-back (Err (MergeError.Second e)) = refl
+outcome-back (Err MergeError.InconsistentSpans) = refl
+outcome-back (Err MergeError.TooLong) = refl
+outcome-back (Err MergeError.TargetTooShort) = refl
 
 -- LAW: no two share number, values and image
-pub merge-answers-apart : (a b : Merging) → merge_answer (merging_outcome a) ≡ merge_answer (merging_outcome b) → a ≡ b
+pub merge-answers-apart : (a b : Result Written MergeError) → merge_answer (merging_outcome a) ≡ merge_answer (merging_outcome b) → a ≡ b
 merge-answers-apart a b e = merging-apart a b (sym (outcome-back a) ∙ ap outcome_of e ∙ outcome-back b)
 
 -- LAW: which image an answer speaks of, in the header's numbers: 1 where the first is refused, 2 where the second is, else 0

@@ -3,15 +3,15 @@ ghost use Rattle.std.specs.Prelude.{◌≡◌, length};
 ghost use Rattle.wire.specs.Cursor.{part};
 ghost use Rattle.table.specs.Decode.{decode, name_of};
 ghost use Rattle.table.specs.Answer.{counts};
-ghost use Rattle.table.specs.Rewrite.{rewriting, rewritten};
+ghost use Rattle.table.specs.Rewrite.{rewrite_refusal, rewriting, rewritten};
 ghost use Rattle.table.specs.Desk.{desk_outcome};
-ghost use Rattle.sounder.specs.Answer.{counts_answer, name_place, kind_of, desk_numbers};
+ghost use Rattle.sounder.specs.Answer.{refusal_answer, counts_answer, name_place, kind_of, desk_numbers};
 
-use crate::answer::{Answer, refused};
+use crate::answer::{Answer, done, refusal};
 use crate::kind::kind_of;
-use table::desk::{DeskRead, for_voice};
-use table::read::{Reading, from_bytes, name, name_at};
-use table::rewrite::{Rewriting, to_bytes};
+use table::desk::for_voice;
+use table::read::{from_bytes, name, name_at};
+use table::rewrite::{RewriteError, to_bytes};
 
 // A part of the caller's image.
 #[repr(C)]
@@ -31,18 +31,26 @@ pub struct DeskAnswer {
     pub max_hz: u32,
 }
 
+// Why nothing was written, as numbers.
+impl From<RewriteError> for Answer {
+    ghost from_gives = { λ e a. a ≡ refusal_answer (rewrite_refusal e) };
+
+    fn from(e: RewriteError) -> Answer {
+        match e {
+            RewriteError::Refused(e) => Answer::from(e),
+            RewriteError::TargetTooShort => refusal(17, 0),
+        }
+    }
+}
+
 // Reads an image: its entry count and the end of the last entry.
 #[unsafe(no_mangle)]
 pub extern "C" fn sounder_from_bytes(image: &[u8]) -> Answer
     ensures { result ≡ counts_answer (counts (decode image.now)) }
 {
     match from_bytes(image) {
-        Reading::Accepted(n, end) => Answer {
-            number: 0,
-            first: n,
-            second: end,
-        },
-        Reading::Refused(e) => refused(e),
+        Ok(read) => done(read.entries, read.end),
+        Err(e) => Answer::from(e),
     }
 }
 
@@ -53,17 +61,8 @@ pub extern "C" fn sounder_to_bytes(image: &[u8], target: &mut [u8]) -> Answer
     ensures written { target.new ≡ rewritten (decode image.now) target.old }
 {
     match to_bytes(image, target) {
-        Rewriting::Written(n, bytes) => Answer {
-            number: 0,
-            first: n,
-            second: bytes,
-        },
-        Rewriting::Refused(e) => refused(e),
-        Rewriting::TargetTooShort => Answer {
-            number: 17,
-            first: 0,
-            second: 0,
-        },
+        Ok(written) => done(written.entries, written.bytes),
+        Err(e) => Answer::from(e),
     }
 }
 
@@ -73,18 +72,14 @@ pub extern "C" fn sounder_desk(kind: u32, channel: u32, image: &[u8]) -> DeskAns
     ensures { result ≡ desk_numbers (desk_outcome (kind_of kind channel) (decode image.now)) }
 {
     match for_voice(image, kind_of(kind, channel)) {
-        DeskRead::Desk(d) => DeskAnswer {
-            answer: Answer {
-                number: 0,
-                first: 0,
-                second: 0,
-            },
-            bands: d.bands,
-            min_hz: d.min_hz,
-            max_hz: d.max_hz,
+        Ok(desk) => DeskAnswer {
+            answer: done(0, 0),
+            bands: desk.bands,
+            min_hz: desk.min_hz,
+            max_hz: desk.max_hz,
         },
-        DeskRead::Refused(e) => DeskAnswer {
-            answer: refused(e),
+        Err(e) => DeskAnswer {
+            answer: Answer::from(e),
             bands: 0,
             min_hz: 0,
             max_hz: 0,

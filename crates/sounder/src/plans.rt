@@ -1,13 +1,12 @@
 // Quiet windows: how loud a pole is to be at a minute of the week. No voice is asked or changed: the gain is played with.
-ghost use Rattle.std.specs.Prelude.{◌≡◌};
-ghost use Rattle.float.specs.F32.{quotient};
-ghost use Rattle.wire.specs.Parse.{refusal};
+ghost use Rattle.std.specs.Prelude.{◌≡◌, Err};
+ghost use Rattle.quiet.specs.Answer.{plan_refusal};
 ghost use Rattle.quiet.specs.Plan.{quiet_gain};
 ghost use Rattle.sounder.specs.Answer.{refusal_answer};
 ghost use Rattle.sounder.specs.Plans.{quiet_answer};
 
-use crate::answer::Answer;
-use quiet::{Plan, PlanAnswer, quiet_gain};
+use crate::answer::{Answer, done, refusal};
+use quiet::{Gain, Plan, PlanError, quiet_gain};
 
 // Accepted: first is the window that holds the minute, or the number of windows where none does.
 #[repr(C)]
@@ -18,34 +17,30 @@ pub struct QuietAnswer {
 }
 
 // A refusal, and the window that it names.
-fn plan_refused(number: u32, window: usize) -> QuietAnswer
-    ensures { result ≡ record { answer = refusal_answer (refusal number window 0); gain = quotient 1 1 } }
-{
-    QuietAnswer {
-        answer: Answer {
-            number,
-            first: window,
-            second: 0,
-        },
-        gain: 1.0,
+impl From<PlanError> for Answer {
+    ghost from_gives = { λ e a. a ≡ refusal_answer (plan_refusal (Err e)) };
+
+    fn from(e: PlanError) -> Answer {
+        match e {
+            PlanError::BadWindow(window) => refusal(18, window),
+            PlanError::BadStep(window) => refusal(19, window),
+            PlanError::BadMinute => refusal(20, 0),
+        }
     }
 }
 
-fn plan_answer(a: PlanAnswer) -> QuietAnswer
-    ensures { result ≡ quiet_answer a }
+fn plan_answer(answer: Result<Gain, PlanError>) -> QuietAnswer
+    ensures { result ≡ quiet_answer answer }
 {
-    match a {
-        PlanAnswer::Gain(held, gain) => QuietAnswer {
-            answer: Answer {
-                number: 0,
-                first: held,
-                second: 0,
-            },
-            gain,
+    match answer {
+        Ok(held) => QuietAnswer {
+            answer: done(held.window, 0),
+            gain: held.gain,
         },
-        PlanAnswer::BadWindow(window) => plan_refused(18, window),
-        PlanAnswer::BadStep(window) => plan_refused(19, window),
-        PlanAnswer::BadMinute => plan_refused(20, 0),
+        Err(e) => QuietAnswer {
+            answer: Answer::from(e),
+            gain: 1.0,
+        },
     }
 }
 

@@ -1,10 +1,10 @@
-// Playing a voice where it lies: its lists, phases and memories are lent, and nothing of it is copied but its numbers and the noise
-// number, which tells in short blocks.
+// Playing a voice where it lies: nothing of it is copied but its numbers and the noise number, which tells in short blocks.
 ghost use Rattle.voice.specs.Input.{call};
 ghost use Rattle.player.specs.Playing.{Plays};
 
-use player::play_parts;
-use voice::{Shape, Voice};
+use crate::answer::number_of;
+use player::play;
+use voice::{Inputs, Shape, Voice};
 
 // Plays a block of the voice itself, which moves on. A refusal, whose number is answered, leaves it as it is.
 #[unsafe(no_mangle)]
@@ -22,25 +22,12 @@ pub extern "C" fn sounder_play_in(
         (call shape freq.now g0.now g1.now g2.now g3.now)
         out.old (record { number = result; voice = voice.new }) out.new }
 {
-    let set = voice.set;
-    let rng = voice.state.rng;
-    let m = play_parts(
-        set,
-        &voice.lists,
-        &voice.partials,
-        &voice.noise,
-        &mut voice.state.phases,
-        &mut voice.state.memories,
-        rng,
-        shape,
+    let inputs = Inputs {
         freq,
         g0,
         g1,
         g2,
         g3,
-        out,
-    );
-    let end = m.rng;
-    voice.state.rng = end;
-    m.number
+    };
+    number_of(play(voice, shape, inputs, out))
 }

@@ -1,4 +1,4 @@
-// Making voices, and playing them.
+// Making voices, and playing them by value. What is changed is the caller's copy, so a call comes to what it comes to where a voice lies.
 ghost use Rattle.std.specs.Prelude.{◌≡◌};
 ghost use Rattle.voice.specs.Input.{call};
 ghost use Rattle.filters.specs.Compensation.{noise_power_gain};
@@ -10,12 +10,12 @@ ghost use Rattle.sounder.specs.Answer.{refusal_answer, kind_of};
 ghost use Rattle.sounder.specs.Voices.{made_answer};
 ghost use Rattle.player.specs.Playing.{Plays};
 
-use crate::answer::{Answer, refused};
+use crate::answer::{Answer, done, number_of, refusal};
 use crate::kind::kind_of;
 use filters::{NoisePower, biquad_noise_power_gain};
-use making::{MakeAnswer, make};
+use making::{MakeError, blank_voice, make};
 use player::play;
-use voice::{BiquadCoeffs, Played, Shape, Voice, reseed, reset, retune};
+use voice::{BiquadCoeffs, Inputs, Played, Shape, Voice};
 
 // The blank voice, all zero, where the making is refused.
 #[repr(C)]
@@ -25,41 +25,19 @@ pub struct MadeAnswer {
     pub voice: Voice,
 }
 
-fn make_answer(a: MakeAnswer) -> Answer
-    ensures { result ≡ refusal_answer (make_refusal a) }
-{
-    match a {
-        MakeAnswer::Done => Answer {
-            number: 0,
-            first: 0,
-            second: 0,
-        },
-        MakeAnswer::Refused(e) => refused(e),
-        MakeAnswer::TooLarge => Answer {
-            number: 8,
-            first: 0,
-            second: 0,
-        },
-        MakeAnswer::BadEntry(i) => Answer {
-            number: 9,
-            first: i,
-            second: 0,
-        },
-        MakeAnswer::NoChannel => Answer {
-            number: 10,
-            first: 0,
-            second: 0,
-        },
-        MakeAnswer::BadRate => Answer {
-            number: 11,
-            first: 0,
-            second: 0,
-        },
-        MakeAnswer::BadCentres => Answer {
-            number: 12,
-            first: 0,
-            second: 0,
-        },
+// Why there is no voice, as numbers.
+impl From<MakeError> for Answer {
+    ghost from_gives = { λ e a. a ≡ refusal_answer (make_refusal e) };
+
+    fn from(e: MakeError) -> Answer {
+        match e {
+            MakeError::Refused(e) => Answer::from(e),
+            MakeError::TooLarge => refusal(8, 0),
+            MakeError::BadEntry(index) => refusal(9, index),
+            MakeError::NoChannel => refusal(10, 0),
+            MakeError::BadRate => refusal(11, 0),
+            MakeError::BadCentres => refusal(12, 0),
+        }
     }
 }
 
@@ -74,19 +52,22 @@ pub extern "C" fn sounder_make(
 ) -> MadeAnswer
     ensures { result ≡ made_answer (make_of (making (kind_of kind channel) image.now sample_rate centres.now)) }
 {
-    let made = make(kind_of(kind, channel), image, sample_rate, centres);
-    let a = made.answer;
-    let voice = made.voice;
-    MadeAnswer {
-        answer: make_answer(a),
-        voice,
+    match make(kind_of(kind, channel), image, sample_rate, centres) {
+        Ok(voice) => MadeAnswer {
+            answer: done(0, 0),
+            voice,
+        },
+        Err(e) => MadeAnswer {
+            answer: Answer::from(e),
+            voice: blank_voice(),
+        },
     }
 }
 
 // Plays a block of a voice by value.
 #[unsafe(no_mangle)]
 pub extern "C" fn sounder_play(
-    voice: Voice,
+    mut voice: Voice,
     shape: Shape,
     freq: &[f32],
     g0: &[f32],
@@ -98,31 +79,42 @@ pub extern "C" fn sounder_play(
     ensures { Plays voice (call shape freq.now g0.now g1.now g2.now g3.now)
         out.old result out.new }
 {
-    play(voice, shape, freq, g0, g1, g2, g3, out)
+    let inputs = Inputs {
+        freq,
+        g0,
+        g1,
+        g2,
+        g3,
+    };
+    let number = number_of(play(&mut voice, shape, inputs, out));
+    Played { number, voice }
 }
 
 // Phases and memories 0, and the default seed.
 #[unsafe(no_mangle)]
-pub extern "C" fn sounder_reset(voice: Voice) -> Played
+pub extern "C" fn sounder_reset(mut voice: Voice) -> Played
     ensures { result ≡ reset_of voice }
 {
-    reset(voice)
+    let number = number_of(voice.reset());
+    Played { number, voice }
 }
 
 // The seed is taken, the memories are 0, the phases kept.
 #[unsafe(no_mangle)]
-pub extern "C" fn sounder_reseed(voice: Voice, seed: u32) -> Played
+pub extern "C" fn sounder_reseed(mut voice: Voice, seed: u32) -> Played
     ensures { result ≡ reseed_of voice seed }
 {
-    reseed(voice, seed)
+    let number = number_of(voice.reseed(seed));
+    Played { number, voice }
 }
 
 // Another sample rate: the rate, the bands and the compensations that `init` gives for the voice's own centres.
 #[unsafe(no_mangle)]
-pub extern "C" fn sounder_retune(voice: Voice, sample_rate: f32) -> Played
+pub extern "C" fn sounder_retune(mut voice: Voice, sample_rate: f32) -> Played
     ensures { result ≡ retune_of voice sample_rate }
 {
-    retune(voice, sample_rate)
+    let number = number_of(voice.retune(sample_rate));
+    Played { number, voice }
 }
 
 // The power of white noise after a band, and how many times the band was rung for it.
