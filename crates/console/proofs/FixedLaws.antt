@@ -57,7 +57,7 @@ module _ (bits m e : ℕ) (hm : m ≡ significand_of bits) (he : e ≡ exponent_
   scaled-part h = simp (lt-leb _ _ h)
 
   pub fixed-whole : (l : Limbs) → 150 ≤ e → InLimbs l → total l ≡ m * 2 ^ (e - 150) →
-      FixedIs (record { high = l.high; middle = l.middle; low = l.low; millionths = 0 }) (millionths_of bits)
+      FixedIs (record { whole = l; millionths = 0 }) (millionths_of bits)
   fixed-whole l h i t =
       record {
         number = add-zero (total l * 1000000) ∙ ap (λ (x : ℕ). x * 1000000) t ∙ sym (scaled-whole h) ∙ is-scaled;
@@ -68,7 +68,10 @@ module _ (bits m e : ℕ) (hm : m ≡ significand_of bits) (he : e ≡ exponent_
 
   pub fixed-part : (n : ℕ) → n < 2 ^ 64 → e < 150 → n ≡ rounded_of (m * 1000000) (2 ^ (150 - e)) →
       FixedIs
-      (record { high = 0; middle = n / 1000000 / 10000000000000; low = n / 1000000 % 10000000000000; millionths = n % 1000000 })
+      (record {
+        whole = record { high = 0; middle = n / 1000000 / 10000000000000; low = n / 1000000 % 10000000000000 };
+        millionths = n % 1000000;
+      })
       (millionths_of bits)
   fixed-part n f h t =
       record {

@@ -1,12 +1,10 @@
+pub mod ScanLaws
 pub mod NarrowLaws
 pub mod FixedLaws
-pub mod ScanLaws
-pub mod Parts
-pub mod Cases
-pub mod CentresLaws
-pub mod CentresExamples
 pub mod PiecesLaws
+pub mod CentresLaws
+mod CentresExamples
 pub mod PlansLaws
-pub mod PlansExamples
+mod PlansExamples
 pub mod CrcLaws
-pub mod CrcExamples
+mod CrcExamples

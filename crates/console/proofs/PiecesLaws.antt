@@ -1,91 +1,50 @@
--- Laws on a text that is cut into pieces as it is gone through: the piece at hand starts at one place of the text and goes to another.
--- Assumes nothing.
-use Rattle.std.proofs.Common.{◌≡◌, ℕ, suc, ◌+◌, ◌-◌, ◌<◌, ◌≤◌, Bool, true, false, cond, List, [], ◌∷◌, ◌++◌, length, get_or, take, drop, sym, refl, ap, ◌∙◌, append_assoc, append-nil, add-one, arith, length-drop, drop_of_length-le, get_or-drop, drop-cons, take-suc}
-use Rattle.console.proofs.Cases.{both}
-use Rattle.console.specs.Pieces.{in_front, pieces_of}
+-- Lines that are taken in turn, each with its number. Assumes nothing.
+use Rattle.std.proofs.Common.{◌≡◌, ℕ, suc, ◌<◌, ◌≤◌, List, [], ◌∷◌, ◌++◌, length, get_or, drop, Result, Ok, Err, sym, refl, ap, ◌∙◌, zero-add, arith, drop_of_length-le, drop-cons, length-append}
+use Rattle.std.specs.List.{enumerate_from}
+use Rattle.std.proofs.lemmas.List.FromFn.{length-enumerate_from, get_or-enumerate_from}
+use Rattle.console.specs.Pieces.{after_lines}
 
--- the first piece with its beginning
-unfoldable pub begun : List ℕ → List (List ℕ) → List (List ℕ)
-begun w [] = w ∷ []
-begun w (l ∷ ls) = (w ++ l) ∷ ls
+-- the line that comes after k others has the number k
+numbered : {X : Type 0} (xs : List X) (k n : ℕ) (x : X) →
+    (k < length (enumerate_from 0 xs)) × ((n, x) ≡ get_or (enumerate_from 0 xs) k (n, x)) →
+    (k < length xs) × (n ≡ k) × (x ≡ get_or xs k x)
+numbered xs k n x turn =
+    let l : k < length xs = omega (arith, length-enumerate_from 0 xs, turn.0) in
+    let e = turn.1 ∙ get_or-enumerate_from 0 xs k (n, x) l in
+    (l, ap (λ (p : ℕ × _). p.0) e ∙ zero-add k, ap (λ (p : ℕ × _). p.1) e)
 
-begun-front : (w : List ℕ) (b : ℕ) (ls : List (List ℕ)) → begun w (in_front b ls) ≡ begun (w ++ (b ∷ [])) ls
-unfolding begun
-begun-front w b [] = refl
-begun-front w b (l ∷ ls) = ap (λ (x : List ℕ). x ∷ ls) (sym (append_assoc w (b ∷ []) l))
+-- What lines do of which the first that is wrong stays.
+module _ {B E : Type 0} (after : Result B E → ℕ → List ℕ → Result B E)
+    (stays : (e : E) (n : ℕ) (l : List ℕ) → after (Err e) n l ≡ Err e) where
+  wrong-stays : (e : E) (n : ℕ) (ls : List (List ℕ)) → after_lines after (Err e) n ls ≡ Err e
+  unfolding after_lines
+  wrong-stays e n [] = refl
+  wrong-stays e n (l ∷ ls) = rw (stays e n l) (wrong-stays e (suc n) ls)
 
-front-begun : (b : ℕ) (ls : List (List ℕ)) → begun [] (in_front b ls) ≡ in_front b ls
-unfolding begun
-front-begun b [] = refl
-front-begun b (l ∷ ls) = refl
+  -- b is what those that have been taken came to
+  module _ {A : Type 0} (b : B) (ls : List (List ℕ)) (taken : List A) where
+    -- what those to come make of it
+    abbrev to_come : Result B E
+    to_come = after_lines after (Ok b) (length taken) (drop (length taken) ls)
 
-begun-none : (cuts : ℕ → Bool) (text : List ℕ) → begun [] (pieces_of cuts text) ≡ pieces_of cuts text
-unfolding begun pieces_of
-begun-none cuts [] = refl
-begun-none cuts (b ∷ bs) =
-    both (λ t. begun [] (cond t ([] ∷ pieces_of cuts bs) (in_front b (pieces_of cuts bs))) ≡ cond t ([] ∷ pieces_of cuts bs) (in_front b (pieces_of cuts bs)))
-    (cuts b) refl (front-begun b (pieces_of cuts bs))
+    -- the next is the line with n above it
+    module _ (n : ℕ) (line : List ℕ)
+        (turn : (length taken < length (enumerate_from 0 ls)) × ((n, line) ≡ get_or (enumerate_from 0 ls) (length taken) (n, line))) where
+      line-taken : after_lines after (after (Ok b) n line) (suc (length taken)) (drop (suc (length taken)) ls) ≡ to_come
+      unfolding after_lines
+      line-taken =
+          let at = numbered ls (length taken) n line turn in
+          rw (drop-cons ls (length taken) line at.0, ← at.2, at.1)
 
--- the piece at hand, and all from it on
-abbrev pub between : List ℕ → ℕ → ℕ → List ℕ
-between text from i = take (i - from) (drop from text)
+      pub line-next : (c : B) (y : A) → Ok c ≡ after (Ok b) n line →
+          after_lines after (Ok c) (length (taken ++ (y ∷ []))) (drop (length (taken ++ (y ∷ []))) ls) ≡ to_come
+      line-next c y e =
+          let k : length (taken ++ (y ∷ [])) ≡ suc (length taken) = omega (arith, length-append taken (y ∷ [])) in
+          rw (k, e) line-taken
 
-unfoldable pub pieces_from : (ℕ → Bool) → List ℕ → ℕ → ℕ → List (List ℕ)
-pieces_from cuts text from i = begun (between text from i) (pieces_of cuts (drop i text))
+      pub line-wrong : (e : E) → Err e ≡ after (Ok b) n line → Err e ≡ to_come
+      line-wrong e f = sym (rw (← line-taken, ← f) (wrong-stays e (suc (length taken)) (drop (suc (length taken)) ls)))
 
-module _ (cuts : ℕ → Bool) where
-  cut-here : (w : List ℕ) (b : ℕ) (bs : List ℕ) → cuts b ≡ true → begun w (pieces_of cuts (b ∷ bs)) ≡ w ∷ pieces_of cuts bs
-  unfolding begun pieces_of
-  cut-here w b bs e = rw (e, append-nil)
-
-  goes_on : (w : List ℕ) (b : ℕ) (bs : List ℕ) → cuts b ≡ false → begun w (pieces_of cuts (b ∷ bs)) ≡ begun (w ++ (b ∷ [])) (pieces_of cuts bs)
-  unfolding pieces_of
-  goes_on w b bs e = rw e (begun-front w b (pieces_of cuts bs))
-
-  at-end : (w text : List ℕ) → text ≡ [] → begun w (pieces_of cuts text) ≡ w ∷ []
-  unfolding begun pieces_of
-  at-end w text e = rw (e, append-nil)
-
--- the piece at hand with one byte more
-longer : (text : List ℕ) (from i : ℕ) → from ≤ i → i < length text → between text from (i + 1) ≡ between text from i ++ (get_or text i 0 ∷ [])
-longer text from i l h =
-    let n : i + 1 - from ≡ suc (i - from) = omega arith in
-    let m : from + (i - from) ≡ i = omega arith in
-    ap (λ (k : ℕ). take k (drop from text)) n
-    ∙ take-suc (drop from text) (i - from) 0 (rw length-drop (omega arith))
-    ∙ ap (λ (b : ℕ). between text from i ++ (b ∷ [])) (get_or-drop from text (i - from) 0 ∙ ap (λ (k : ℕ). get_or text k 0) m)
-
-module _ (cuts : ℕ → Bool) (text : List ℕ) where
-  pub pieces-first : pieces_from cuts text 0 0 ≡ pieces_of cuts text
-  unfolding pieces_from
-  pieces-first = begun-none cuts text
-
-  none-begun : (i n : ℕ) → n ≡ 0 → pieces_of cuts (drop i text) ≡ begun (take n (drop i text)) (pieces_of cuts (drop i text))
-  none-begun i n e = rw e (sym (begun-none cuts (drop i text)))
-
-  -- a byte that cuts ends the piece
-  pub piece_cut : (from i : ℕ) → i < length text → cuts (get_or text i 0) ≡ true →
-      pieces_from cuts text from i ≡ between text from i ∷ pieces_from cuts text (i + 1) (i + 1)
-  unfolding pieces_from
-  piece_cut from i h e =
-      ap (λ (l : List ℕ). begun (between text from i) (pieces_of cuts l)) (drop-cons text i 0 h)
-      ∙ cut-here cuts (between text from i) (get_or text i 0) (drop (suc i) text) e
-      ∙ ap (λ (k : ℕ). between text from i ∷ pieces_of cuts (drop k text)) (sym (add-one i))
-      ∙ ap (λ (l : List (List ℕ)). between text from i ∷ l) (none-begun (i + 1) (i + 1 - (i + 1)) (omega arith))
-
-  -- any other makes it longer
-  pub piece-on : (from i : ℕ) → from ≤ i → i < length text → cuts (get_or text i 0) ≡ false →
-      pieces_from cuts text from i ≡ pieces_from cuts text from (i + 1)
-  unfolding pieces_from
-  piece-on from i l h e =
-      ap (λ (l : List ℕ). begun (between text from i) (pieces_of cuts l)) (drop-cons text i 0 h)
-      ∙ goes_on cuts (between text from i) (get_or text i 0) (drop (suc i) text) e
-      ∙ ap (λ (k : ℕ). begun (between text from i ++ (get_or text i 0 ∷ [])) (pieces_of cuts (drop k text))) (sym (add-one i))
-      ∙ ap (λ (w : List ℕ). begun w (pieces_of cuts (drop (i + 1) text))) (sym (longer text from i l h))
-
-  -- the last piece
-  pub piece-last : (from i : ℕ) → length text ≤ i → i ≤ length text → pieces_from cuts text from i ≡ between text from (length text) ∷ []
-  unfolding pieces_from
-  piece-last from i l h =
-      let e : i ≡ length text = omega arith in
-      rw e (at-end cuts (between text from (length text)) (drop (length text) text) (drop_of_length-le text {i = length text} (omega arith)))
+    pub lines-end : length taken ≡ length (enumerate_from 0 ls) → Ok b ≡ to_come
+    unfolding after_lines
+    lines-end e = let h : length ls ≤ length taken = omega (arith, e, length-enumerate_from 0 ls) in rw drop_of_length-le

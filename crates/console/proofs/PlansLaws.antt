@@ -1,52 +1,44 @@
 -- Laws on the words and lines of a text of windows. Assumes nothing.
-use Rattle.std.proofs.Common.{◌≡◌, ℕ, ◌+◌, eqb, List, [], ◌∷◌, length, get_or, sym, refl, ap, ◌∙◌, add-one, arith, eq-eqb, ne_eqb}
+use Rattle.std.proofs.Common.{◌≡◌, ℕ, suc, ◌<◌, ◌≤◌, List, [], ◌∷◌, ◌++◌, length, get_or, drop, Ok, Err, sym, refl, arith, drop_of_length-le, drop-cons, length-append}
 use Rattle.console.specs.declared.plans.Line.{Line}
-use Rattle.console.specs.Edges.{spells, edge_of}
 use Rattle.console.specs.declared.plans.Reason.{Reason}
-use Rattle.console.specs.declared.plans.Fault.{Fault}
-use Rattle.console.specs.declared.plans.Planned.{Planned}
-use Rattle.console.specs.Plans.{started, first_word, next_word, after_word, line_of, with_line, unless_bad, after_line, after_lines}
-
--- the last letter decides where the others are right
-pub spells-last : (w : List ℕ) (a b c : ℕ) → length w ≡ 3 → get_or w 0 0 ≡ a → get_or w 1 0 ≡ b → eqb (get_or w 2 0) c ≡ spells w a b c
-unfolding spells
-spells-last w a b c n p q = rw (eq-eqb _ _ n, eq-eqb _ _ p, eq-eqb _ _ q)
-
--- the first word by its first byte
-pub first-none : (w : List ℕ) → length w ≡ 0 → Line.Empty ≡ first_word w
-first-none [] h = refl
-first-none (b ∷ w) h = absurd (omega arith)
-
-pub first-comment : (w : List ℕ) → (length w ≡ 0 → ⊥) → get_or w 0 0 ≡ 35 → Line.Comment ≡ first_word w
-first-comment [] n e = absurd (n refl)
-first-comment (b ∷ w) n e = rw (eq-eqb b 35 e)
-
-pub first_edge : (w : List ℕ) (l : Line) → (length w ≡ 0 → ⊥) → (get_or w 0 0 ≡ 35 → ⊥) → l ≡ started (edge_of w) → l ≡ first_word w
-first_edge [] l n e q = absurd (n refl)
-first_edge (b ∷ w) l n e q = rw (ne_eqb b 35 e) q
+use Rattle.console.specs.Plans.{next_word, after_word, after_words}
 
 -- what stands between two blanks, empty or not
-pub after_none : (l : Line) (w : List ℕ) → length w ≡ 0 → l ≡ after_word l w
+pub after_none : (l : Line) (w : List ℕ) → length w ≡ 0 → after_word l w ≡ Ok l
 unfolding after_word
 after_none l [] h = refl
 after_none l (b ∷ w) h = absurd (omega arith)
 
-pub after-some : (l r : Line) (w : List ℕ) → (length w ≡ 0 → ⊥) → r ≡ next_word l w → r ≡ after_word l w
+pub after_some : (l : Line) (w : List ℕ) → 0 < length w → after_word l w ≡ next_word l w
 unfolding after_word
-after-some l r [] n e = absurd (n refl)
-after-some l r (b ∷ w) n e = e
+after_some l [] n = absurd (omega arith)
+after_some l (b ∷ w) n = refl
 
--- a line after good ones, and after a bad one
-pub after-good : (p r : Planned) (n : ℕ) (line : List ℕ) (l : Line) → p.fault ≡ Fault.NoFault → l ≡ line_of line → r ≡ with_line p n l → r ≡ after_line p n line
-unfolding after_line
-after-good p r n line l f e q =
-    q ∙ ap (with_line p n) e ∙ ap (unless_bad p (with_line p n (line_of line))) (sym f)
+pub ruleset word_or_none = (after_none, after_some)
 
-pub after-bad : (p : Planned) (n : ℕ) (line : List ℕ) (m : ℕ) (r : Reason) → p.fault ≡ Fault.BadLine m r → p ≡ after_line p n line
-unfolding after_line
-after-bad p n line m r f = ap (unless_bad p (with_line p n (line_of line))) (sym f)
+-- where a line is no window it stays so
+bad-stays : (r : Reason) (ws : List (List ℕ)) → after_words (Err r) ws ≡ Err r
+unfolding after_words
+bad-stays r [] = refl
+bad-stays r (w ∷ ws) = bad-stays r ws
 
--- the lines one after the other
-pub lines_next : (p q : Planned) (n : ℕ) (l : List ℕ) (ls : List (List ℕ)) → q ≡ after_line p n l → after_lines q (n + 1) ls ≡ after_lines p n (l ∷ ls)
-unfolding after_lines
-lines_next p q n l ls e = rw (e, add-one)
+-- What the words of a line come to, of which so many have been taken; w is the next of them.
+module _ {A : Type 0} (l : Line) (ws : List (List ℕ)) (taken : List A) where
+  module _ (w : List ℕ) (turn : (length taken < length ws) × (w ≡ get_or ws (length taken) w)) where
+    word-taken : after_words (after_word l w) (drop (suc (length taken)) ws) ≡ after_words (Ok l) (drop (length taken) ws)
+    unfolding after_words
+    word-taken = rw (drop-cons ws (length taken) w turn.0, ← turn.1)
+
+    pub word-next : (m : Line) (y : A) → Ok m ≡ after_word l w →
+        after_words (Ok m) (drop (length (taken ++ (y ∷ []))) ws) ≡ after_words (Ok l) (drop (length taken) ws)
+    word-next m y e =
+        let n : length (taken ++ (y ∷ [])) ≡ suc (length taken) = omega (arith, length-append taken (y ∷ [])) in
+        rw (n, e) word-taken
+
+    pub word-wrong : (r : Reason) → Err r ≡ after_word l w → Err r ≡ after_words (Ok l) (drop (length taken) ws)
+    word-wrong r e = sym (rw (← word-taken, ← e) (bad-stays r (drop (suc (length taken)) ws)))
+
+  pub words-end : length taken ≡ length ws → Ok l ≡ after_words (Ok l) (drop (length taken) ws)
+  unfolding after_words
+  words-end e = let h : length ws ≤ length taken = omega arith in rw drop_of_length-le

@@ -39,7 +39,7 @@ InLimbs l = (l.middle < 10000000000000) × (l.low < 10000000000000)
 
 -- n millionths: the limbs' digits, then six digits
 pub record FixedIs (f : Fixed) (n : ℕ) : Type 0 where
-  pub number : ((f.high * 10000000000000 + f.middle) * 10000000000000 + f.low) * 1000000 + f.millionths ≡ n
-  pub middle : f.middle < 10000000000000
-  pub low : f.low < 10000000000000
+  pub number : total f.whole * 1000000 + f.millionths ≡ n
+  pub middle : f.whole.middle < 10000000000000
+  pub low : f.whole.low < 10000000000000
   pub six : f.millionths < 1000000

@@ -4,7 +4,6 @@ pub mod Fixed
 pub mod File
 pub mod Pieces
 pub mod Centres
-pub mod Reader
 pub mod Edges
 pub mod Plans
 pub mod Crc

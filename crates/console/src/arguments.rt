@@ -1,53 +1,36 @@
 // The words of the command line, by their number; word 0 is the program's name.
-ghost use Rattle.std.specs.Prelude.{◌≤◌, length};
+ghost use Rattle.std.specs.Prelude.{◌≤◌, IfSome};
 ghost use Rattle.io.specs.Counts.{IsPrefixLen};
 
 use std::env::FillError;
 use std::rt::Env;
 
-// How many bytes of a word were put down, and whether these are all that it has.
-#[derive(Clone, Copy)]
-pub struct Given {
-    pub bytes: usize,
-    pub whole: bool,
+// Puts a word to the start of `buf`, and answers how many bytes it has; none where there is no such word, or where it does not fit, and
+// then `buf` is full of its first bytes.
+pub fn read<R: Env>(rt: &R, i: usize, buf: &mut [u8]) -> Option<usize>
+    ensures { IfSome result (λ n. IsPrefixLen n buf.new) }
+{
+    rt.arg(i, buf).ok()
 }
 
-// Puts the start of a word into `buf`, as much of it as fits; nothing where there is no such word.
-pub fn read<R: Env>(rt: &R, i: usize, buf: &mut [u8]) -> Given
-    ensures { IsPrefixLen result.bytes buf.new }
+// Puts the start of a word to the start of `buf`, as much of it as fits, and answers how many bytes that is; 0 where there is no such word.
+pub fn read_start<R: Env>(rt: &R, i: usize, buf: &mut [u8]) -> usize
+    ensures { IsPrefixLen result buf.new }
 {
     match rt.arg(i, buf) {
-        Ok(n) => Given {
-            bytes: n,
-            whole: true,
-        },
-        Err(FillError::TooLong) => Given {
-            bytes: buf.len(),
-            whole: false,
-        },
-        Err(FillError::NotPresent) => Given {
-            bytes: 0,
-            whole: false,
-        },
+        Ok(n) => n,
+        Err(FillError::TooLong) => buf.len(),
+        Err(FillError::NotPresent) => 0,
     }
 }
 
 fn is_there<R: Env>(rt: &R, i: usize) -> bool {
-    let mut first = [0u8; 1];
-    match rt.arg(i, &mut first) {
-        Err(FillError::NotPresent) => false,
-        _ => true,
-    }
+    !matches!(rt.arg(i, &mut [0; 1]), Err(FillError::NotPresent))
 }
 
 // How many words there are, the program's name among them; no more than `most` are counted.
 pub fn count<R: Env>(rt: &R, most: usize) -> usize
     ensures { result ≤ most }
 {
-    for i in 0..most {
-        if !is_there(rt, i) {
-            return i;
-        }
-    }
-    most
+    (0..most).find(|i| !is_there(rt, *i)).unwrap_or(most)
 }

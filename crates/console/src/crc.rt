@@ -6,6 +6,7 @@ ghost use Rattle.console.specs.Crc.{crc_bit, crc_byte, crc_bytes, checksum};
 pub const START: u32 = 0xffff_ffff;
 
 // One bit further.
+#[tactic(auto, using(std::proofs::lemmas::Bool::Decides::nat_tests), unfolding(crate::specs::Crc::crc_bit))]
 fn step(c: u32) -> u32
     ensures { result ≡ crc_bit c }
 {
@@ -16,27 +17,25 @@ fn step(c: u32) -> u32
     }
 }
 
+#[tactic(auto, using(crate::proofs::CrcLaws::bit_steps))]
 fn byte(c: u32, b: u8) -> u32
     ensures { result ≡ crc_byte c b }
 {
-    let mut r = c ^ (b as u32);
-    let mut i: usize = 0;
-    while i < 8 {
+    let mut r = c ^ b as u32;
+    for _i in 0..8u32 {
         r = step(r);
-        i += 1;
     }
     r
 }
 
 // The running number after some bytes more.
+#[tactic(auto, using(crate::proofs::CrcLaws::bytes_steps))]
 pub fn update(c: u32, s: &[u8]) -> u32
     ensures { result ≡ crc_bytes c s.now }
 {
     let mut r = c;
-    let mut i = 0;
-    while i < s.len() {
-        r = byte(r, s[i]);
-        i += 1;
+    for b in s {
+        r = byte(r, *b);
     }
     r
 }

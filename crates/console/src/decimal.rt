@@ -1,8 +1,8 @@
 // Decimal numbers as people write them: an optional minus sign, digits, and an optional point among or around them.
 // Digits are gathered in whole numbers: at most 15 of them after leading zeros, and at most 15 after the point.
-ghost use Rattle.std.specs.Prelude.{◌≡◌, drop};
-ghost use Rattle.console.specs.Decimal.{start_scan, spoilt_scan, next_scan, scanned, minus_first, concluded};
-ghost use Rattle.console.specs.Decimal.{read_of, whole_of, found_number};
+ghost use Rattle.std.specs.Prelude.{◌≡◌, ℕ, ◌≤◌, List};
+ghost use Rattle.std.specs.Iterator.{AlwaysYields, IsFinite};
+ghost use Rattle.console.specs.Decimal.{start_scan, next_scan, pointed, with_digit, scan_of, concluded, read_of, whole_of, found_number};
 
 // digits / 10^places, less than 0 where negative.
 #[derive(Clone, Copy)]
@@ -12,163 +12,121 @@ pub struct Decimal {
     pub places: u32,
 }
 
+// What is known after some of the text, where it may be the start of a number: the digits so far, how many stood after the point, and
+// whether there was a point and a digit.
 #[derive(Clone, Copy)]
-pub enum DecimalRead {
-    Number(Decimal),
-    Refused,
+struct Scan {
+    digits: u64,
+    places: u32,
+    point: bool,
+    some: bool,
 }
 
-// What is known after some of the text: the digits so far, how many stood after the point, whether there was a point
-// and a digit, and whether all was as it should be.
-#[derive(Clone, Copy)]
-pub struct Scan {
-    pub digits: u64,
-    pub places: u32,
-    pub point: bool,
-    pub some: bool,
-    pub good: bool,
-}
-
-pub fn start() -> Scan
-    ensures { result ≡ start_scan }
-{
-    Scan {
-        digits: 0,
-        places: 0,
-        point: false,
-        some: false,
-        good: true,
-    }
-}
-
-// Text that is no number: it stays so.
-fn spoilt() -> Scan
-    ensures { result ≡ spoilt_scan }
-{
-    Scan {
-        digits: 0,
-        places: 0,
-        point: false,
-        some: false,
-        good: false,
-    }
-}
-
-// One byte more.
-pub fn next(s: Scan, b: u8) -> Scan
-    ensures { result ≡ next_scan s b }
-{
-    if b == 46 {
-        if s.point {
-            return spoilt();
+impl Scan {
+    fn start() -> Scan
+        ensures { result ≡ start_scan }
+    {
+        Scan {
+            digits: 0,
+            places: 0,
+            point: false,
+            some: false,
         }
-        return Scan {
-            digits: s.digits,
-            places: s.places,
-            point: true,
-            some: s.some,
-            good: s.good,
-        };
     }
-    if b < 48 {
-        return spoilt();
-    }
-    if 57 < b {
-        return spoilt();
-    }
-    if 100000000000000 <= s.digits {
-        return spoilt();
-    }
-    if s.point {
-        if 15 <= s.places {
-            return spoilt();
+
+    // With a point, which is the only one.
+    fn pointed(self) -> Option<Scan>
+        ensures { result ≡ pointed self }
+    {
+        if self.point {
+            return None;
         }
-        return Scan {
-            digits: s.digits * 10 + ((b - 48) as u64),
-            places: s.places + 1,
+        Some(Scan {
             point: true,
+            ..self
+        })
+    }
+
+    // With a digit, which is at most the fifteenth, and after the point the fifteenth there.
+    fn with_digit(self, digit: u8) -> Option<Scan>
+        requires { digit ≤ 9 }
+        ensures { result ≡ with_digit self digit }
+    {
+        if 100_000_000_000_000 <= self.digits || self.point && 15 <= self.places {
+            return None;
+        }
+        Some(Scan {
+            digits: self.digits * 10 + digit as u64,
+            places: self.places + self.point as u32,
+            point: self.point,
             some: true,
-            good: s.good,
-        };
+        })
     }
-    Scan {
-        digits: s.digits * 10 + ((b - 48) as u64),
-        places: s.places,
-        point: false,
-        some: true,
-        good: s.good,
-    }
-}
 
-fn scan_from(text: &[u8], from: usize) -> Scan
-    ensures { result ≡ scanned start_scan (drop from text.now) }
-{
-    let mut s = start();
-    let mut i = from;
-    while i < text.len() {
-        s = next(s, text[i]);
-        i += 1;
-    }
-    s
-}
-
-fn minus_first(text: &[u8]) -> bool
-    ensures { result ≡ minus_first text.now }
-{
-    if 0 < text.len() { text[0] == 45 } else { false }
-}
-
-pub fn conclude(negative: bool, s: Scan) -> DecimalRead
-    ensures { result ≡ concluded negative s }
-{
-    if s.good {
-        if s.some {
-            return DecimalRead::Number(Decimal {
-                negative,
-                digits: s.digits,
-                places: s.places,
-            });
+    // With one byte more; none where that is no start of a number.
+    #[tactic(auto, using(std::proofs::lemmas::Bool::Decides::nat_tests), unfolding(crate::specs::Decimal::next_scan))]
+    fn next(self, b: u8) -> Option<Scan>
+        ensures { result ≡ next_scan self b }
+    {
+        match b {
+            b'.' => self.pointed(),
+            b'0'..=b'9' => self.with_digit(b - b'0'),
+            _ => None,
         }
     }
-    DecimalRead::Refused
+
+    // The number, where there is a digit.
+    fn conclude(self, negative: bool) -> Option<Decimal>
+        ensures { result ≡ concluded negative self }
+    {
+        if !self.some {
+            return None;
+        }
+        Some(Decimal {
+            negative,
+            digits: self.digits,
+            places: self.places,
+        })
+    }
 }
 
-pub fn read(text: &[u8]) -> DecimalRead
+// The number that bytes spell, as they come.
+pub(crate) fn spelled<'a, I: Iterator<Item = &'a u8>>(mut bytes: I) -> Option<Decimal>
+    requires can { I.can_next bytes }
+    requires finite { IsFinite (I.remaining bytes) }
+    ensures { (text : List ℕ) → AlwaysYields I.next_gives (λ b. b.now) bytes text → result ≡ read_of text }
+{
+    let first = *bytes.next()?;
+    let negative = first == b'-';
+    let mut scan = if negative {
+        Scan::start()
+    } else {
+        Scan::start().next(first)?
+    };
+    for b in bytes {
+        scan = scan.next(*b)?;
+    }
+    scan.conclude(negative)
+}
+
+pub fn read(text: &[u8]) -> Option<Decimal>
     ensures { result ≡ read_of text.now }
 {
-    if minus_first(text) {
-        return conclude(true, scan_from(text, 1));
-    }
-    conclude(false, scan_from(text, 0))
+    spelled(text.iter())
 }
 
 // A whole number, at most the largest u32.
-#[derive(Clone, Copy)]
-pub enum Whole {
-    Number(u32),
-    Refused,
-}
-
-fn whole_number(d: Decimal) -> Whole
+fn whole_number(d: Decimal) -> Option<u32>
     ensures { result ≡ whole_of d }
 {
-    if d.negative {
-        return Whole::Refused;
+    if d.negative || 0 < d.places {
+        return None;
     }
-    if 0 < d.places {
-        return Whole::Refused;
-    }
-    if 0xffff_ffff < d.digits {
-        return Whole::Refused;
-    }
-    Whole::Number(d.digits as u32)
+    u32::try_from(d.digits).ok()
 }
 
-pub fn read_whole(text: &[u8]) -> Whole
+pub fn read_whole(text: &[u8]) -> Option<u32>
     ensures { result ≡ found_number (read_of text.now) }
 {
-    match read(text) {
-        DecimalRead::Number(d) => whole_number(d),
-        DecimalRead::Refused => Whole::Refused,
-    }
+    whole_number(read(text)?)
 }

@@ -1,85 +1,41 @@
 // Whole files.
-ghost use Rattle.std.specs.Prelude.{◌≡◌, ◌≤◌, length};
+ghost use Rattle.std.specs.Prelude.{IfOk};
 ghost use Rattle.io.specs.Counts.{IsPrefixLen};
 ghost use Rattle.console.specs.File.{HasRead};
 
-use crate::{arguments, paths, say};
-use std::io::{Error, ErrorKind, Read, Result};
+use crate::{Failed, arguments, paths, say};
+use std::io::Read;
 use std::rt::{Env, Files};
 
-// How many bytes of the buffer were read, or that the file could not be opened or read.
-#[derive(Clone, Copy)]
-pub struct FileRead {
-    pub failed: bool,
-    pub bytes: usize,
-}
-
-// One read into the rest of a buffer.
-fn read_rest<F: Read>(file: &mut F, buf: &mut [u8], done: usize) -> Result<usize> {
-    if buf.len() <= done {
-        return Ok(0);
-    }
-    file.read(&mut buf[done..])
-}
-
-// Says why a file is not read.
-fn failure(path: &[u8], e: Error) -> FileRead
-    ensures { result.bytes ≡ 0 }
-{
-    say::failed(path, e);
-    FileRead {
-        failed: true,
-        bytes: 0,
-    }
-}
-
-// Reads until the buffer is full or the file ends. A file longer than the buffer fills it. Where that fails, it has said so.
-fn read_all<F: Read>(file: &mut F, path: &[u8], buf: &mut [u8]) -> FileRead
-    ensures { HasRead result buf.new }
+// Reads until the buffer is full or the file ends, which it says by giving no byte, and answers how many bytes that were. A file longer
+// than the buffer fills it.
+fn read_all<F: Read>(file: &mut F, buf: &mut [u8]) -> std::io::Result<usize>
+    ensures { IfOk result (λ n. IsPrefixLen n buf.new) }
 {
     let mut done = 0;
     while done < buf.len() {
-        match read_rest(file, buf, done) {
-            Ok(n) => {
-                if n < 1 {
-                    return FileRead {
-                        failed: false,
-                        bytes: done,
-                    };
-                }
-                if n <= buf.len() - done {
-                    done += n;
-                } else {
-                    return failure(path, Error::from(ErrorKind::Other));
-                }
-            }
-            Err(e) => {
-                return failure(path, e);
-            }
+        match file.read(&mut buf[done..])? {
+            0 => break,
+            n => done += n,
         }
     }
-    FileRead {
-        failed: false,
-        bytes: done,
-    }
+    Ok(done)
 }
 
-// Reads the file with a name. Where that fails, it has said so on standard error. The contract only speaks of how many bytes were read:
-// which bytes a file holds, no contract can say.
-pub fn read<R: Files>(rt: &R, path: &[u8], buf: &mut [u8]) -> FileRead
+// Reads the file with a name, and answers how many bytes were read. Where that fails, it has said so on standard error. The contract only
+// speaks of how many bytes were read: which bytes a file holds, no contract can say.
+pub fn read<R: Files>(rt: &R, path: &[u8], buf: &mut [u8]) -> Result<usize, Failed>
     ensures { HasRead result buf.new }
 {
-    match paths::open(rt, path) {
-        Ok(mut file) => read_all(&mut file, path, buf),
-        Err(e) => failure(path, e),
-    }
+    let mut file = paths::open(rt, path).map_err(|e| say::failed(path, e))?;
+    read_all(&mut file, buf).map_err(|e| say::failed(path, e))
 }
 
 // Reads the file that an argument names, as `read` does.
-pub fn read_argument<R: Files + Env>(rt: &R, i: usize, buf: &mut [u8]) -> FileRead
+pub fn read_argument<R: Files + Env>(rt: &R, i: usize, buf: &mut [u8]) -> Result<usize, Failed>
     ensures { HasRead result buf.new }
 {
     let mut path = io::buffer();
-    let n = arguments::read(rt, i, &mut path).bytes;
+    let n = arguments::read_start(rt, i, &mut path);
     read(rt, &path[..n], buf)
 }

@@ -2,7 +2,10 @@
 ghost use Rattle.std.specs.Prelude.{◌≡◌, ◌+◌, ◌*◌, ◌^◌, ◌<◌, ◌≤◌};
 ghost use Rattle.console.specs.Fixed.{total, InLimbs, rounded_of, significand_of, exponent_of, millionths_of, FixedIs};
 
-// A whole number in three limbs of 13 decimal digits: every float is below 10^39.
+use std::fmt;
+
+// A whole number in three limbs of 13 decimal digits: every float is below 10^39. (A u128 is too short for one that is none: the fields of
+// an infinity stand for 2^128.)
 #[derive(Clone, Copy)]
 pub struct Limbs {
     pub high: u64,
@@ -10,29 +13,28 @@ pub struct Limbs {
     pub low: u64,
 }
 
-// The magnitude of a float: its whole part in limbs, and the millionths.
+// The magnitude of a float: its whole part, and the millionths.
 #[derive(Clone, Copy)]
 pub struct Fixed {
-    pub high: u64,
-    pub middle: u64,
-    pub low: u64,
+    pub whole: Limbs,
     pub millionths: u64,
 }
 
-fn power_of_two(p: u32) -> u64
-    requires { p < 45 }
-    ensures { result ≡ 2 ^ p }
-{
-    let mut i = 0;
-    let mut r: u64 = 1;
-    while i < p {
-        r *= 2;
-        i += 1;
+// No zeros in front, and six digits after the point.
+impl fmt::Display for Fixed {
+    fn fmt<W: fmt::Write>(&self, f: &mut fmt::Formatter<W>) -> fmt::Result {
+        let Limbs { high, middle, low } = self.whole;
+        match (high, middle) {
+            (0, 0) => write!(f, "{low}")?,
+            (0, _) => write!(f, "{middle}{low:013}")?,
+            _ => write!(f, "{high}{middle:013}{low:013}")?,
+        }
+        write!(f, ".{:06}", self.millionths)
     }
-    r
 }
 
 // n / d to the nearest whole number, ties to the even one.
+#[tactic(auto, using(std::proofs::lemmas::Bool::Decides::nat_tests), unfolding(crate::specs::Fixed::rounded_of))]
 fn rounded(n: u64, d: u64) -> u64
     requires { (0 < d) × (d < 2 ^ 62) × (n < 2 ^ 62) }
     ensures { result ≡ rounded_of n d }
@@ -55,7 +57,7 @@ fn millionths(m: u32, s: u32) -> u64
 {
     let n = (m as u64) * 1000000;
     if s < 45 {
-        return rounded(n, power_of_two(s));
+        return rounded(n, 1u64 << s);
     }
     0
 }
@@ -83,10 +85,8 @@ fn shifted(m: u32, e: u32) -> Limbs
         middle: 0,
         low: m as u64,
     };
-    let mut i = 0;
-    while i < e {
+    for _i in 0..e {
         l = doubled(l);
-        i += 1;
     }
     l
 }
@@ -120,19 +120,18 @@ pub fn magnitude(bits: u32) -> Fixed
     let m = significand(bits);
     let e = exponent(bits);
     if 150 <= e {
-        let l = shifted(m, e - 150);
         return Fixed {
-            high: l.high,
-            middle: l.middle,
-            low: l.low,
+            whole: shifted(m, e - 150),
             millionths: 0,
         };
     }
     let n = millionths(m, 150 - e);
     Fixed {
-        high: 0,
-        middle: n / 1000000 / 10000000000000,
-        low: n / 1000000 % 10000000000000,
+        whole: Limbs {
+            high: 0,
+            middle: n / 1000000 / 10000000000000,
+            low: n / 1000000 % 10000000000000,
+        },
         millionths: n % 1000000,
     }
 }

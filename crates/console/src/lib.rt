@@ -15,3 +15,7 @@ pub mod plans;
 mod reason;
 pub mod say;
 pub mod words;
+
+// What was to be done is not done, and why has been said on standard error.
+#[derive(Clone, Copy, Debug, PartialEq, Eq)]
+pub struct Failed;

@@ -1,37 +1,16 @@
 // The f32 of a decimal number.
-ghost use Rattle.std.specs.Prelude.{◌≡◌, ◌^◌, ◌≤◌, min};
-ghost use Rattle.console.specs.Narrow.{narrow_pattern, narrowed, quotient_of, signed, value_of};
+ghost use Rattle.std.specs.Prelude.{◌≡◌};
+ghost use Rattle.console.specs.Narrow.{narrow_pattern, narrowed, value_of};
 
 use crate::decimal::Decimal;
 
-fn at_most_15(p: u32) -> u32
-    ensures { (result ≡ min p 15) × (result ≤ 15) }
-{
-    if p < 15 { p } else { 15 }
-}
-
-fn power_of_ten(p: u32) -> u64
-    requires { p ≤ 15 }
-    ensures { result ≡ 10 ^ p }
-{
-    let mut i = 0;
-    let mut r: u64 = 1;
-    while i < p {
-        r *= 10;
-        i += 1;
-    }
-    r
-}
-
 // The pattern of the f32 nearest to a positive f64, ties to the even pattern: 29 of its digits go, and the exponent's field is
 // 896 less. Of a float beyond 2^-126 or 2^127, for which that does not hold, 0.
+#[tactic(auto, using(std::proofs::lemmas::Bool::Decides::nat_tests), unfolding(crate::specs::Narrow::narrow_pattern))]
 fn pattern(b: u64) -> u32
     ensures { result ≡ narrow_pattern b }
 {
-    if b < 0x3810_0000_0000_0000 {
-        return 0;
-    }
-    if 0x47e0_0000_0000_0000 <= b {
+    if b < 0x3810_0000_0000_0000 || 0x47e0_0000_0000_0000 <= b {
         return 0;
     }
     let kept = b / 0x2000_0000 - 0x1_c000_0000;
@@ -60,7 +39,7 @@ pub fn value(d: Decimal) -> f32
     ensures { result ≡ value_of d }
 {
     let n = std::num::nearest_u64_to_f64(d.digits);
-    let p = std::num::nearest_u64_to_f64(power_of_ten(at_most_15(d.places)));
+    let p = std::num::nearest_u64_to_f64(10u64.pow(d.places.min(15)));
     let x = narrow(n / p);
     if d.negative { -x } else { x }
 }

@@ -5,34 +5,28 @@ use std::io::{Error, ErrorKind, Result};
 use std::rt::Files;
 
 fn text(path: &[u8]) -> Result<&str> {
-    match std::str::from_utf8(path) {
-        Ok(name) => Ok(name),
-        Err(_) => Err(Error::new(ErrorKind::InvalidFilename, "the name is not UTF-8")),
-    }
+    std::str::from_utf8(path).map_err(|_| Error::new(
+        ErrorKind::InvalidFilename,
+        "the name is not UTF-8",
+    ))
 }
 
 // Opens a file to be read.
 pub fn open<R: Files>(rt: &R, path: &[u8]) -> Result<R::File> {
-    match text(path) {
-        Ok(name) => File::open(rt, name),
-        Err(e) => Err(e),
-    }
+    File::open(rt, text(path)?)
 }
 
 // Opens a file to be read and written, as it is.
 pub fn open_update<R: Files>(rt: &R, path: &[u8]) -> Result<R::File> {
-    match text(path) {
-        Ok(name) => OpenOptions::new().read(true).write(true).open(rt, name),
-        Err(e) => Err(e),
-    }
+    OpenOptions::new()
+        .read(true)
+        .write(true)
+        .open(rt, text(path)?)
 }
 
 // Makes a file, where nothing has the name.
 pub fn create<R: Files>(rt: &R, path: &[u8]) -> Result<R::File> {
-    match text(path) {
-        Ok(name) => File::create_new(rt, name),
-        Err(e) => Err(e),
-    }
+    File::create_new(rt, text(path)?)
 }
 
 // Whether something has the name, whatever it is: also a link that leads nowhere.
@@ -45,22 +39,12 @@ pub fn is_taken<R: Files>(rt: &R, path: &[u8]) -> bool {
 
 // Gives a file another name, over what has that.
 pub fn rename<R: Files>(rt: &R, from: &[u8], to: &[u8]) -> Result<()> {
-    match text(from) {
-        Ok(old) => match text(to) {
-            Ok(new) => fs::rename(rt, old, new),
-            Err(e) => Err(e),
-        },
-        Err(e) => Err(e),
-    }
+    fs::rename(rt, text(from)?, text(to)?)
 }
 
 // Removes a file, where it is there.
 pub fn remove<R: Files>(rt: &R, path: &[u8]) {
-    match text(path) {
-        Ok(name) => match fs::remove_file(rt, name) {
-            Ok(()) => {}
-            Err(_) => {}
-        },
-        Err(_) => {}
+    if let Ok(name) = text(path) {
+        let _ = fs::remove_file(rt, name);
     }
 }

@@ -1,15 +1,17 @@
 // A planner's quiet windows as text: a line each, START END STEP. An edge is a minute of the week, or a day and a clock. A line whose first
 // word starts with # is a comment; a line without a word is passed over. The limits of a plan are not asked here: that is the library's.
 ghost use Rattle.std.specs.Prelude.{◌≡◌, ◌≤◌};
-ghost use Rattle.console.specs.Plans.{is_blank, started, ended, started_at, ended_at, stepped, first_word, next_word, after_word, line_of};
-ghost use Rattle.console.specs.Plans.{no_windows, placed, with_window, bad_line, with_line, after_line, plan_of, minute_in};
+ghost use Rattle.console.specs.Edges.{edge_of};
+ghost use Rattle.console.specs.Plans.{is_blank, ended, first_word, next_word, after_word, line_of};
+ghost use Rattle.console.specs.Plans.{no_windows, placed, with_window, with_line, plan_of, minute_in};
 
-use crate::decimal::{Whole, read_whole};
+use crate::decimal::read_whole;
 use crate::edges::{Day, Edge, read_clock, read_edge};
 use quiet::{Plan, Window};
+use std::fmt;
 
 // Why a line is no window.
-#[derive(Clone, Copy)]
+#[derive(Clone, Copy, Debug, PartialEq, Eq)]
 pub enum Reason {
     TooFew, // words
     TooMany, // words
@@ -18,20 +20,34 @@ pub enum Reason {
     NoStep, // the last word is no whole number
 }
 
+impl fmt::Display for Reason {
+    fn fmt<W: fmt::Write>(&self, f: &mut fmt::Formatter<W>) -> fmt::Result {
+        match self {
+            Reason::TooFew => write!(f, "too few words: a window is START END STEP"),
+            Reason::TooMany => write!(f, "too many words: a window is START END STEP"),
+            Reason::NoEdge => write!(
+                f,
+                "START or END is neither a minute of the week, 0 to 10079, nor a day: Mon, Tue, Wed, Thu, Fri, Sat or Sun"
+            ),
+            Reason::NoClock => write!(f, "the word after a day is no clock from 00:00 to 23:59"),
+            Reason::NoStep => write!(f, "STEP is not a whole number from 0 to 100"),
+        }
+    }
+}
+
 // The first line that is no window, by how many lines stand above it, and why.
-#[derive(Clone, Copy)]
-pub enum Fault {
-    NoFault,
-    BadLine(usize, Reason),
+#[derive(Clone, Copy, Debug, PartialEq, Eq)]
+pub struct BadLine {
+    pub above: usize,
+    pub reason: Reason,
 }
 
 // What a text holds. Of each window `above` has how many lines stand above its own. A count of 65 stands for any number of more than 64:
-// the first 64 windows are kept, and of the sixty-fifth its line. Where a line is no window none is kept.
+// the first 64 windows are kept, and of the sixty-fifth its line. The lines stand beside the plan, which the library takes as it is.
 #[derive(Clone, Copy)]
 pub struct Planned {
     pub plan: Plan,
     pub above: [usize; 65],
-    pub fault: Fault,
 }
 
 // What the words of a line come to so far.
@@ -44,244 +60,165 @@ enum Line {
     SecondDay(u32, Day), // the start, and the day of the end, whose clock is to come
     Ended(u32, u32), // start and end: the step is to come
     Complete(Window),
-    Bad(Reason),
 }
 
+#[tactic(auto, using(std::proofs::lemmas::Bool::Decides::nat_tests), unfolding(crate::specs::Plans::is_blank))]
 fn is_blank(b: u8) -> bool
     ensures { result ≡ is_blank b }
 {
-    if b == 32 {
-        return true;
-    }
-    if b == 9 {
-        return true;
-    }
-    b == 13
-}
-
-// A line with its start, or the day of it.
-fn start_edge(e: Edge) -> Line
-    ensures { result ≡ started e }
-{
-    match e {
-        Edge::Minute(m) => Line::Started(m),
-        Edge::OnDay(d) => Line::FirstDay(d),
-        Edge::Neither => Line::Bad(Reason::NoEdge),
-    }
-}
-
-// A line with its end, or the day of it.
-fn end_edge(start: u32, e: Edge) -> Line
-    ensures { result ≡ ended start e }
-{
-    match e {
-        Edge::Minute(m) => Line::Ended(start, m),
-        Edge::OnDay(d) => Line::SecondDay(start, d),
-        Edge::Neither => Line::Bad(Reason::NoEdge),
-    }
-}
-
-// A line with the clock of its start.
-fn start_clock(m: Whole) -> Line
-    ensures { result ≡ started_at m }
-{
-    match m {
-        Whole::Number(n) => Line::Started(n),
-        Whole::Refused => Line::Bad(Reason::NoClock),
-    }
-}
-
-// A line with the clock of its end.
-fn end_clock(start: u32, m: Whole) -> Line
-    ensures { result ≡ ended_at start m }
-{
-    match m {
-        Whole::Number(n) => Line::Ended(start, n),
-        Whole::Refused => Line::Bad(Reason::NoClock),
-    }
-}
-
-// A line with its step.
-fn with_step(start: u32, end: u32, s: Whole) -> Line
-    ensures { result ≡ stepped start end s }
-{
-    match s {
-        Whole::Number(step) => Line::Complete(Window { start, end, step }),
-        Whole::Refused => Line::Bad(Reason::NoStep),
-    }
+    matches!(b, b' ' | b'\t' | b'\r')
 }
 
 // A line with its first word.
-fn first_word(w: &[u8]) -> Line
+fn first_word(w: &[u8]) -> Result<Line, Reason>
     ensures { result ≡ first_word w.now }
 {
-    if w.len() == 0 {
-        return Line::Empty;
-    }
-    if w[0] == 35 {
-        return Line::Comment;
-    }
-    start_edge(read_edge(w))
-}
-
-// A line with one word more.
-fn next_word(l: Line, w: &[u8]) -> Line
-    ensures { result ≡ next_word l w.now }
-{
-    match l {
-        Line::Empty => first_word(w),
-        Line::Comment => Line::Comment,
-        Line::FirstDay(d) => start_clock(read_clock(d, w)),
-        Line::Started(start) => end_edge(start, read_edge(w)),
-        Line::SecondDay(start, d) => end_clock(start, read_clock(d, w)),
-        Line::Ended(start, end) => with_step(start, end, read_whole(w)),
-        Line::Complete(_) => Line::Bad(Reason::TooMany),
-        Line::Bad(r) => Line::Bad(r),
+    match w {
+        [] => Ok(Line::Empty),
+        [b'#', ..] => Ok(Line::Comment),
+        _ => match read_edge(w) {
+            Some(Edge::Minute(start)) => Ok(Line::Started(start)),
+            Some(Edge::OnDay(day)) => Ok(Line::FirstDay(day)),
+            None => Err(Reason::NoEdge),
+        },
     }
 }
 
-// A line with what stands between two blanks: a word, or nothing.
-fn after_word(l: Line, w: &[u8]) -> Line
-    ensures { result ≡ after_word l w.now }
+// A line with the word after its start.
+fn second_edge(start: u32, w: &[u8]) -> Result<Line, Reason>
+    ensures { result ≡ ended start (edge_of w.now) }
 {
-    if w.len() == 0 {
-        return l;
+    match read_edge(w) {
+        Some(Edge::Minute(end)) => Ok(Line::Ended(start, end)),
+        Some(Edge::OnDay(day)) => Ok(Line::SecondDay(start, day)),
+        None => Err(Reason::NoEdge),
     }
-    next_word(l, w)
+}
+
+impl Line {
+    // With one word more.
+    fn next_word(self, w: &[u8]) -> Result<Line, Reason>
+        ensures { result ≡ next_word self w.now }
+    {
+        match self {
+            Line::Empty => first_word(w),
+            Line::Comment => Ok(Line::Comment),
+            Line::FirstDay(day) => read_clock(day, w).map(Line::Started).ok_or(Reason::NoClock),
+            Line::Started(start) => second_edge(start, w),
+            Line::SecondDay(start, day) => {
+                let end = read_clock(day, w).ok_or(Reason::NoClock)?;
+                Ok(Line::Ended(start, end))
+            }
+            Line::Ended(start, end) => {
+                let step = read_whole(w).ok_or(Reason::NoStep)?;
+                Ok(Line::Complete(Window { start, end, step }))
+            }
+            Line::Complete(_) => Err(Reason::TooMany),
+        }
+    }
+
+    // With what stands between two blanks: a word, or nothing.
+    #[tactic(auto, using(crate::proofs::PlansLaws::word_or_none))]
+    fn after_word(self, w: &[u8]) -> Result<Line, Reason>
+        ensures { result ≡ after_word self w.now }
+    {
+        match w {
+            [] => Ok(self),
+            _ => self.next_word(w),
+        }
+    }
 }
 
 // What a line says.
-fn line_of(line: &[u8]) -> Line
+fn line_of(line: &[u8]) -> Result<Line, Reason>
     ensures { result ≡ line_of line.now }
 {
     let mut l = Line::Empty;
-    let mut from = 0;
-    let mut i = 0;
-    while i < line.len() {
-        if is_blank(line[i]) {
-            l = after_word(l, &line[from..i]);
-            from = i + 1;
-        }
-        i += 1;
+    for w in line.split(|b| is_blank(*b)) {
+        l = l.after_word(w)?;
     }
-    after_word(l, &line[from..])
-}
-
-fn no_windows(fault: Fault) -> Planned
-    ensures { result ≡ no_windows fault }
-{
-    let blank = Window {
-        start: 0,
-        end: 0,
-        step: 0,
-    };
-    Planned {
-        plan: Plan {
-            count: 0,
-            windows: [blank; 64],
-        },
-        above: [0; 65],
-        fault,
-    }
-}
-
-fn bad_line(above: usize, reason: Reason) -> Planned
-    ensures { result ≡ bad_line above reason }
-{
-    no_windows(Fault::BadLine(above, reason))
+    Ok(l)
 }
 
 // A plan with a window more; of a sixty-fifth only the count is kept.
+#[tactic(auto, using(std::proofs::lemmas::Bool::Decides::nat_tests), unfolding(crate::specs::Plans::placed))]
 fn place(mut p: Plan, v: Window) -> Plan
     requires { p.count ≤ 64 }
     ensures { result ≡ placed p v }
 {
     let n = p.count as usize;
-    p.count = p.count + 1;
+    p.count += 1;
     if n < 64 {
         p.windows[n] = v;
-        return p;
     }
     p
 }
 
-// The windows with one more, of a line with so many lines above it.
-fn with_window(p: Planned, above: usize, v: Window) -> Planned
-    ensures { result ≡ with_window p above v }
-{
-    let plan = p.plan;
-    let mut lines = p.above;
-    let fault = p.fault;
-    let n = plan.count as usize;
-    if 64 < n {
-        return p;
+impl Planned {
+    fn new() -> Planned
+        ensures { result ≡ no_windows }
+    {
+        let blank = Window {
+            start: 0,
+            end: 0,
+            step: 0,
+        };
+        Planned {
+            plan: Plan {
+                count: 0,
+                windows: [blank; 64],
+            },
+            above: [0; 65],
+        }
     }
-    lines[n] = above;
-    Planned {
-        plan: place(plan, v),
-        above: lines,
-        fault,
-    }
-}
 
-// The windows with that of a line.
-fn with_line(p: Planned, above: usize, l: Line) -> Planned
-    ensures { result ≡ with_line p above l }
-{
-    match l {
-        Line::Empty => p,
-        Line::Comment => p,
-        Line::FirstDay(_) => bad_line(above, Reason::TooFew),
-        Line::Started(_) => bad_line(above, Reason::TooFew),
-        Line::SecondDay(_, _) => bad_line(above, Reason::TooFew),
-        Line::Ended(_, _) => bad_line(above, Reason::TooFew),
-        Line::Complete(v) => with_window(p, above, v),
-        Line::Bad(r) => bad_line(above, r),
+    // With one window more, of a line with so many lines above it.
+    #[tactic(auto, using(std::proofs::lemmas::Bool::Decides::nat_tests), unfolding(crate::specs::Plans::with_window))]
+    fn with_window(mut self, above: usize, v: Window) -> Planned
+        ensures { result ≡ with_window self above v }
+    {
+        let n = self.plan.count as usize;
+        if 64 < n {
+            return self;
+        }
+        self.above[n] = above;
+        self.plan = place(self.plan, v);
+        self
     }
-}
 
-// What the lines down to this one hold. A bad line stays.
-fn after_line(p: Planned, above: usize, line: &[u8]) -> Planned
-    ensures { result ≡ after_line p above line.now }
-{
-    let fault = p.fault;
-    match fault {
-        Fault::NoFault => with_line(p, above, line_of(line)),
-        Fault::BadLine(_, _) => p,
+    // With the window of a line, or why it is none. A line that ends before its step has too few words.
+    fn with_line(self, above: usize, line: &[u8]) -> Result<Planned, BadLine>
+        ensures { result ≡ with_line self above (line_of line.now) }
+    {
+        match line_of(line) {
+            Ok(Line::Empty) | Ok(Line::Comment) => Ok(self),
+            Ok(Line::Complete(v)) => Ok(self.with_window(above, v)),
+            Ok(_) => Err(BadLine {
+                above,
+                reason: Reason::TooFew,
+            }),
+            Err(reason) => Err(BadLine { above, reason }),
+        }
     }
 }
 
 // The windows that a text holds, or its first line that is none.
-pub fn read(text: &[u8]) -> Planned
+pub fn read(text: &[u8]) -> Result<Planned, BadLine>
     ensures { result ≡ plan_of text.now }
 {
-    let mut p = no_windows(Fault::NoFault);
-    let mut above = 0;
-    let mut from = 0;
-    let mut i = 0;
-    while i < text.len() {
-        if text[i] == 10 {
-            p = after_line(p, above, &text[from..i]);
-            above += 1;
-            from = i + 1;
-        }
-        i += 1;
+    let mut planned = Planned::new();
+    for (above, line) in text.split(|b| *b == b'\n').enumerate() {
+        planned = planned.with_line(above, line)?;
     }
-    after_line(p, above, &text[from..])
+    Ok(planned)
 }
 
 // The minute of the week that a text names, as an edge of a window does.
-pub fn minute(text: &[u8]) -> Whole
+pub fn minute(text: &[u8]) -> Option<u32>
     ensures { result ≡ minute_in (line_of text.now) }
 {
     match line_of(text) {
-        Line::Empty => Whole::Refused,
-        Line::Comment => Whole::Refused,
-        Line::FirstDay(_) => Whole::Refused,
-        Line::Started(m) => Whole::Number(m),
-        Line::SecondDay(_, _) => Whole::Refused,
-        Line::Ended(_, _) => Whole::Refused,
-        Line::Complete(_) => Whole::Refused,
-        Line::Bad(_) => Whole::Refused,
+        Ok(Line::Started(m)) => Some(m),
+        _ => None,
     }
 }

@@ -1,23 +1,21 @@
-use Rattle.std.proofs.Common.{arith}
+use Rattle.std.proofs.Common.{◌≡◌, Ok, Err, Result}
+use Rattle.std.specs.Result.{IfOk, IsErrAnd, MatchResult}
+use Rattle.console.specs.declared.centres.Centres.{Centres}
+use Rattle.console.specs.declared.centres.CentresError.{CentresError}
+use Rattle.console.specs.declared.Failed.{Failed}
+use Rattle.console.specs.Centres.{Few}
 use Rattle.console.proofs.CentresLaws.{centres-few}
 use Rattle.console.proofs.centres.from_argument.Goals as goal
 
-pub returns-then-argument-eq0 : goal.returns-then-argument-eq0
-returns-then-argument-eq0 g c =
-    rw c.none.ensures (omega arith)
+no_centres : (m : Result Centres Failed) (P : Failed → Type 0) → IsErrAnd m P → IfOk m Few
+no_centres (Ok x) P h = absurd h
+no_centres (Err e) P h = tt
 
-pub returns-then-r : goal.returns-then-r
-returns-then-r g c =
-    rw c.faulty.ensures (omega arith)
+-- what `map_err` leaves as it was
+few-kept : (r : Result Centres CentresError) (m : Result Centres Failed) (P : CentresError → Failed → Type 0) →
+    MatchResult r (λ x. m ≡ Ok x) (λ e. IsErrAnd m (P e)) → IfOk r Few → IfOk m Few
+few-kept (Ok x) m P e h = rw e h
+few-kept (Err e) m P h k = no_centres m (P e) h
 
-pub returns-then-k-eq4096 : goal.returns-then-k-eq4096
-returns-then-k-eq4096 g c =
-    rw c.faulty-then-k-eq4096.ensures (omega arith)
-
-pub returns-then-c : goal.returns-then-c
-returns-then-c g c =
-    rw c.read-c.ensures (centres-few _)
-
-pub returns-else-c : goal.returns-else-c
-returns-else-c g c =
-    rw c.read-c.ensures (centres-few _)
+pub returns : goal.returns
+returns g c = few-kept c.read.result c.map_err.result _ c.map_err.ensures.cases (rw c.read.ensures (centres-few _))

@@ -1,31 +1,44 @@
-use Rattle.std.proofs.Common.{sym, ◌∙◌, arith}
-use Rattle.console.proofs.CentresLaws.{read-on-is, read_next, read-end, above_step}
+-- The lines in turn, each with its number.
+use Rattle.std.proofs.Common.{rules, tests, refl, ◌∙◌}
+use Rattle.std.proofs.lemmas.Iterator.Splits.{YieldsList-from_slice_split}
+use Rattle.std.proofs.lemmas.Iterator.Consumers.{YieldsList-from_enumerate, YieldsList-turn, YieldsList-end}
+use Rattle.std.proofs.lemmas.Result.{err_from_is_err_and}
+use Rattle.console.specs.Pieces.{is_feed}
+use Rattle.console.specs.Centres.{after_line, centres_of}
+use Rattle.console.proofs.PiecesLaws.{line-next, line-wrong, lines-end}
 use Rattle.console.proofs.centres.read.Goals as goal
 
-pub loop-i-init : goal.loop-i-init
-loop-i-init c =
-    (omega arith, rw (c.none.ensures, c.new_line.ensures))
+pub loop-above-init : goal.loop-above-init
+unfolding centres_of
+loop-above-init c = rw c.none-centres.ensures
 
-pub bounds-text-i : goal.bounds-text-i
-bounds-text-i c =
-    omega arith
+pub loop-above-preserved : goal.loop-above-preserved
+loop-above-preserved c =
+    let turn = YieldsList-turn
+    (YieldsList-from_enumerate {s = c.into_iter-above-iterator.result}
+    (YieldsList-from_slice_split _ is_feed c.args.text.now (search rules) (search rules) (search rules) (λ x b q k. search (rules, tests)))
+    (search rules))
+    c.loop-above.yielded c.loop-above.above-iterator c.loop-above.yielded_by c.next.result c.next.new.self
+    (c.in-Some.above, c.in-Some.line) c.in-Some.is c.next.ensures.steps in
+    line-next after_line (λ e n l. refl) _ _ _ _ _ turn _ _ c.in_ok-centres.ensures ∙ c.loop-above.invariant
 
-pub step-r-requires : goal.step-r-requires
-step-r-requires c =
-    omega arith
-
-pub overflow_add-i : goal.overflow_add-i
-overflow_add-i c =
-    omega arith
-
-pub loop-i-smaller : goal.loop-i-smaller
-loop-i-smaller c =
-    omega arith
-
-pub loop-i-preserved : goal.loop-i-preserved
-loop-i-preserved c =
-    (omega (arith, above_step _ _ _ c.step-r.ensures), rw c.step-r.ensures (read_next _ _ c.loop-i.i c.loop-i-test.true ∙ c.loop-i.invariant.1))
+pub returns-in_err-centres : goal.returns-in_err-centres
+returns-in_err-centres c =
+    let turn = YieldsList-turn
+    (YieldsList-from_enumerate {s = c.into_iter-above-iterator.result}
+    (YieldsList-from_slice_split _ is_feed c.args.text.now (search rules) (search rules) (search rules) (λ x b q k. search (rules, tests)))
+    (search rules))
+    c.loop-above.yielded c.loop-above.above-iterator c.loop-above.yielded_by c.next.result c.next.new.self
+    (c.in-Some.above, c.in-Some.line) c.in-Some.is c.next.ensures.steps in
+    let p = err_from_is_err_and c.from_residual.result c.from_residual.ensures.1 in
+    rw (p.1, p.2) (line-wrong after_line (λ e n l. refl) _ _ _ _ _ turn _ c.in_err-centres.ensures ∙ c.loop-above.invariant)
 
 pub returns : goal.returns
 returns c =
-    c.after_line.ensures ∙ sym (read-end _ _ c.loop-i.i c.loop-i-test.false) ∙ c.loop-i.invariant.1 ∙ read-on-is _
+    let end = YieldsList-end
+    (YieldsList-from_enumerate {s = c.into_iter-above-iterator.result}
+    (YieldsList-from_slice_split _ is_feed c.args.text.now (search rules) (search rules) (search rules) (λ x b q k. search (rules, tests)))
+    (search rules))
+    c.loop-above.yielded c.loop-above.above-iterator c.loop-above.yielded_by c.next.result c.next.new.self
+    c.in-None.is c.next.ensures.steps in
+    lines-end after_line (λ e n l. refl) _ _ _ end.1 ∙ c.loop-above.invariant

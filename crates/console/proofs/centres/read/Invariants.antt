@@ -1,9 +1,8 @@
-use Rattle.std.proofs.Common.{◌≡◌, ◌-◌, ◌≤◌, length, drop}
-use Rattle.console.specs.Reader.{start_reader, read_on}
+use Rattle.std.proofs.Common.{◌≡◌, length, drop, Ok}
+use Rattle.console.specs.Pieces.{lines_of, after_lines}
+use Rattle.console.specs.Centres.{after_line, centres_of}
 use Rattle.console.proofs.centres.read.Given as goal
 
-abbrev pub invariant-loop-i : goal.invariant-loop-i
-invariant-loop-i l = (l.r.above ≤ l.i) × (read_on l.r (drop l.i l.text) ≡ read_on start_reader l.text)
-
-abbrev pub decreases-loop-i : goal.decreases-loop-i
-decreases-loop-i l = length l.text - l.i
+abbrev pub invariant-loop-above : goal.invariant-loop-above
+invariant-loop-above l =
+    after_lines after_line (Ok l.centres) (length l.yielded) (drop (length l.yielded) (lines_of l.text)) ≡ centres_of l.text

@@ -1,10 +1,5 @@
-use Rattle.console.proofs.ScanLaws.{read-minus, read_plain}
+use Rattle.std.proofs.lemmas.Iterator.{YieldsList-from_slice}
 use Rattle.console.proofs.decimal.read.Goals as goal
 
-pub returns-then-minus_first : goal.returns-then-minus_first
-returns-then-minus_first c =
-    read-minus _ _ _ _ c.minus_first.ensures c.if-minus_first.true c.scan_from.ensures c.conclude.ensures
-
 pub returns : goal.returns
-returns c =
-    read_plain _ _ _ _ c.minus_first.ensures c.if-minus_first.false c.scan_from-2.ensures c.conclude-2.ensures
+returns c = c.spelled.ensures c.args.text.now (YieldsList-from_slice c.args.text.now (cc)).runs

@@ -1,68 +1,37 @@
-use Rattle.std.proofs.Common.{sym, ap, ◌∙◌, arith}
-use Rattle.console.specs.Plans.{is_blank, after_words, line_of}
-use Rattle.console.proofs.PiecesLaws.{pieces-first, piece_cut, piece-on, piece-last}
+-- The pieces between blanks in turn.
+use Rattle.std.proofs.Common.{rules, tests, refl, ◌∙◌}
+use Rattle.std.proofs.lemmas.Iterator.Splits.{YieldsList-from_slice_split}
+use Rattle.std.proofs.lemmas.Iterator.Consumers.{YieldsList-turn, YieldsList-end}
+use Rattle.std.proofs.lemmas.Result.{err_from_is_err_and}
+use Rattle.console.specs.Plans.{is_blank, line_of}
+use Rattle.console.proofs.PlansLaws.{word-next, word-wrong, words-end}
 use Rattle.console.proofs.plans.line_of.Goals as goal
-use Rattle.console.proofs.plans.line_of.Goals.{then-is_blank, else-is_blank}
 
-pub loop-i-init : goal.loop-i-init
+pub loop-w-init : goal.loop-w-init
 unfolding line_of
-loop-i-init c =
-    (omega arith, omega arith, ap (after_words _) (pieces-first is_blank _))
+loop-w-init c = refl
 
-pub bounds-line-i : goal.bounds-line-i
-bounds-line-i c = omega arith
+pub loop-w-preserved : goal.loop-w-preserved
+loop-w-preserved c =
+    let turn = YieldsList-turn
+    (YieldsList-from_slice_split {s = c.into_iter-w-iterator.result} _ is_blank c.args.line.now (search rules) (search rules) (search rules)
+    (λ x b q k. search (rules, tests)))
+    c.loop-w.yielded c.loop-w.w-iterator c.loop-w.yielded_by c.next.result c.next.new.self c.in-Some.w c.in-Some.is c.next.ensures.steps in
+    word-next _ _ _ _ turn _ _ c.in_ok-l.ensures ∙ c.loop-w.invariant
 
-pub slice_bounds-after_word-count : goal.slice_bounds-after_word-count
-slice_bounds-after_word-count c = omega arith
-
-pub slice_bounds-after_word-start : goal.slice_bounds-after_word-start
-slice_bounds-after_word-start c = omega arith
-
-pub slice_bounds-after_word-end : goal.slice_bounds-after_word-end
-slice_bounds-after_word-end c = omega arith
-
-pub overflow_add-from : goal.overflow_add-from
-overflow_add-from c = omega arith
-
-pub overflow_add-i : goal.overflow_add-i
-overflow_add-i c = omega arith
-
-pub loop-i-smaller : goal.loop-i-smaller
-loop-i-smaller c = omega arith
-
-pub loop-i-preserved : goal.loop-i-preserved
-unfolding after_words
-loop-i-preserved c =
-    let text = c.args.line.now in
-    let h = c.loop-i-test.true in
-    let blank = c.is_blank.ensures in
-    elim c.if-is_blank.branch [
-      | then-is_blank w ↦ (
-        omega arith,
-        omega arith,
-        rw (w.l-is, w.from-is, w.after_word-l.ensures)
-            (ap (after_words _) (sym (piece_cut is_blank text c.loop-i.from c.loop-i.i h (sym blank ∙ w.if-is_blank.true))) ∙ c.loop-i.invariant.2),
-      )
-      | else-is_blank w ↦ (
-        omega arith,
-        omega arith,
-        rw (w.l-is, w.from-is)
-            (ap (after_words _) (sym (piece-on is_blank text c.loop-i.from c.loop-i.i c.loop-i.invariant.0 h (sym blank ∙ w.if-is_blank.false))) ∙ c.loop-i.invariant.2),
-      )
-    ]
-
-pub slice_bounds-after_word-count-2 : goal.slice_bounds-after_word-count-2
-slice_bounds-after_word-count-2 c = omega arith
-
-pub slice_bounds-after_word-start-2 : goal.slice_bounds-after_word-start-2
-slice_bounds-after_word-start-2 c = omega arith
-
-pub slice_bounds-after_word-end-2 : goal.slice_bounds-after_word-end-2
-slice_bounds-after_word-end-2 c = omega arith
+pub returns-in_err-l : goal.returns-in_err-l
+returns-in_err-l c =
+    let turn = YieldsList-turn
+    (YieldsList-from_slice_split {s = c.into_iter-w-iterator.result} _ is_blank c.args.line.now (search rules) (search rules) (search rules)
+    (λ x b q k. search (rules, tests)))
+    c.loop-w.yielded c.loop-w.w-iterator c.loop-w.yielded_by c.next.result c.next.new.self c.in-Some.w c.in-Some.is c.next.ensures.steps in
+    let p = err_from_is_err_and c.from_residual.result c.from_residual.ensures.1 in
+    rw (p.1, p.2) (word-wrong _ _ _ _ turn _ c.in_err-l.ensures ∙ c.loop-w.invariant)
 
 pub returns : goal.returns
-unfolding after_words
 returns c =
-    let text = c.args.line.now in
-    let e = piece-last is_blank text c.loop-i.from c.loop-i.i c.loop-i-test.false c.loop-i.invariant.1 in
-    c.after_word.ensures ∙ sym (ap (after_words _) e) ∙ c.loop-i.invariant.2
+    let end = YieldsList-end
+    (YieldsList-from_slice_split {s = c.into_iter-w-iterator.result} _ is_blank c.args.line.now (search rules) (search rules) (search rules)
+    (λ x b q k. search (rules, tests)))
+    c.loop-w.yielded c.loop-w.w-iterator c.loop-w.yielded_by c.next.result c.next.new.self c.in-None.is c.next.ensures.steps in
+    words-end _ _ _ end.1 ∙ c.loop-w.invariant

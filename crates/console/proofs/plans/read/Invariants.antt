@@ -1,12 +1,8 @@
-use Rattle.console.specs.Plans.{after_lines, plan_of}
-use Rattle.std.proofs.Common.{◌≡◌, ◌-◌, ◌≤◌, length}
-use Rattle.console.specs.Pieces.{is_feed}
-use Rattle.console.proofs.PiecesLaws.{pieces_from}
+use Rattle.std.proofs.Common.{◌≡◌, length, drop, Ok}
+use Rattle.console.specs.Pieces.{lines_of, after_lines}
+use Rattle.console.specs.Plans.{after_line, plan_of}
 use Rattle.console.proofs.plans.read.Given as goal
 
-abbrev pub invariant-loop-i : goal.invariant-loop-i
-invariant-loop-i l =
-    (l.above ≤ l.i) × (l.from ≤ l.i) × (l.i ≤ length l.text) × (after_lines l.p l.above (pieces_from is_feed l.text l.from l.i) ≡ plan_of l.text)
-
-abbrev pub decreases-loop-i : goal.decreases-loop-i
-decreases-loop-i l = length l.text - l.i
+abbrev pub invariant-loop-above : goal.invariant-loop-above
+invariant-loop-above l =
+    after_lines after_line (Ok l.planned) (length l.yielded) (drop (length l.yielded) (lines_of l.text)) ≡ plan_of l.text
