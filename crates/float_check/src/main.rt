@@ -4,64 +4,55 @@
 
 mod cases;
 
+use float::from_bits;
+
 // The pattern of a float; one for every NaN.
 fn bits(x: f32) -> u32 {
-    if x != x {
-        return 0x7fc0_0000;
-    }
-    f32::to_bits(x)
+    if x.is_nan() { 0x7fc0_0000 } else { x.to_bits() }
 }
 
 // What `sqrt_each` gives at a place of a column of sixteen x.
-fn in_column(x: f32, place: usize) -> f32 {
-    let xs: [f32; 16] = [x; 16];
-    let mut roots: [f32; 16] = [0.0; 16];
-    float::sqrt_each(&mut roots, &xs, 16);
-    roots[place % 16]
+fn in_column(x: f32, place: u32) -> f32 {
+    let mut roots = [0.0; 16];
+    float::sqrt_each(&mut roots, &[x; 16], 16);
+    roots[place as usize % 16]
 }
 
-// What the function that `which` names gives: 0 sqrt, 1 is_finite, 2 sqrt_each, and from_bits for the rest.
-fn answer(which: u32, n: u32) -> u32 {
-    let x = float::from_bits(n);
-    match which {
-        0 => bits(float::sqrt(x)),
-        1 => float::is_finite(x) as u32,
-        2 => bits(in_column(x, n as usize)),
-        _ => bits(x),
+// What was asked, the answer, and the answer that was expected.
+#[derive(Clone, Copy)]
+struct Asked {
+    case: u64,
+    given: u32,
+    expected: u32,
+}
+
+// A case of one operand.
+fn one(n: u32, given: u32, expected: u32) -> Asked {
+    Asked {
+        case: u64::from(n),
+        given,
+        expected,
     }
 }
 
-// The same for two operands: 0 min, and max for the rest.
-fn answer_of_two(which: u32, a: u32, b: u32) -> u32 {
-    let x = float::from_bits(a);
-    let y = float::from_bits(b);
-    match which {
-        0 => bits(float::min(x, y)),
-        _ => bits(float::max(x, y)),
+// A case of two operands, the first in the upper half.
+fn two(a: u32, b: u32, given: u32, expected: u32) -> Asked {
+    Asked {
+        case: u64::from(a) << 32 | u64::from(b),
+        given,
+        expected,
     }
 }
 
-// The two halves of a case.
-fn upper(case: u64) -> u32 {
-    (case / 0x1_0000_0000) as u32
-}
-
-fn lower(case: u64) -> u32 {
-    (case % 0x1_0000_0000) as u32
-}
-
-fn wide(n: u32) -> u64 {
-    n as u64
-}
-
-// Writes a case that differs: the operand or the two operands, what was given and what was expected.
-fn report(case: u64, given: u32, expected: u32) {
+// Writes a case that differs. Printing is by `io` here, which rests on the C function `write` alone; `println!` would rest on those of the
+// error's number and words too.
+fn report(asked: Asked) {
     io::write_all(1, b"differs: ");
-    io::print_hex(1, case, 8);
+    io::print_hex(1, asked.case, 8);
     io::write_all(1, b" gives ");
-    io::print_hex(1, given as u64, 8);
+    io::print_hex(1, u64::from(asked.given), 8);
     io::write_all(1, b", not ");
-    io::print_hex(1, expected as u64, 8);
+    io::print_hex(1, u64::from(asked.expected), 8);
     io::write_all(1, b"\n");
 }
 
@@ -79,61 +70,45 @@ fn conclude(name: &[u8], cases: usize, wrong: usize) {
     }
 }
 
-// A group of cases of one operand.
-fn compare(name: &[u8], which: u32, cases: &[u64]) {
-    let mut wrong: usize = 0;
-    let mut i: usize = 0;
-    while i < cases.len() {
-        let n = upper(cases[i]);
-        let expected = lower(cases[i]);
-        let given = answer(which, n);
-        if given != expected {
-            report(wide(n), given, expected);
+// A group of cases, each of which `ask` asks.
+fn compare<T, F: Fn(&T) -> Asked>(name: &[u8], cases: &[T], ask: F)
+    requires { F.IsAlwaysCallable ask }
+{
+    let mut wrong = 0;
+    for case in cases {
+        let asked = ask(case);
+        if asked.given != asked.expected {
+            report(asked);
             wrong += 1;
         }
-        i += 1;
     }
     conclude(name, cases.len(), wrong);
 }
 
-// A group of cases of two operands.
-fn compare_two(name: &[u8], which: u32, pairs: &[u64; 200], answers: &[u32; 200]) {
-    let mut wrong: usize = 0;
-    let mut i: usize = 0;
-    while i < 200 {
-        let given = answer_of_two(which, upper(pairs[i]), lower(pairs[i]));
-        let expected = answers[i];
-        if given != expected {
-            report(pairs[i], given, expected);
-            wrong += 1;
-        }
-        i += 1;
-    }
-    conclude(name, 200, wrong);
-}
-
-// `from_bits` against the values of its patterns.
-fn compare_values(name: &[u8], patterns: &[u32; 90], values: &[f32; 90]) {
-    let mut wrong: usize = 0;
-    let mut i: usize = 0;
-    while i < 90 {
-        let given = bits(float::from_bits(patterns[i]));
-        let expected = bits(values[i]);
-        if given != expected {
-            report(wide(patterns[i]), given, expected);
-            wrong += 1;
-        }
-        i += 1;
-    }
-    conclude(name, 90, wrong);
-}
-
 fn main() {
-    compare(b"sqrt", 0, &cases::SQRT);
-    compare(b"sqrt_each", 2, &cases::SQRT);
-    compare_two(b"min", 0, &cases::PAIRS, &cases::MIN);
-    compare_two(b"max", 1, &cases::PAIRS, &cases::MAX);
-    compare(b"is_finite", 1, &cases::IS_FINITE);
-    compare(b"from_bits special", 3, &cases::SPECIAL);
-    compare_values(b"from_bits", &cases::FINITE, &cases::VALUES);
+    compare(b"sqrt", &cases::SQRT, |&(n, root)| {
+        one(n, bits(float::sqrt(from_bits(n))), root)
+    });
+    compare(b"sqrt_each", &cases::SQRT, |&(n, root)| {
+        one(n, bits(in_column(from_bits(n), n)), root)
+    });
+    compare(b"min", &cases::PAIRS, |&(a, b, smaller, _)| {
+        two(a, b, bits(float::min(from_bits(a), from_bits(b))), smaller)
+    });
+    compare(b"max", &cases::PAIRS, |&(a, b, _, larger)| {
+        two(a, b, bits(float::max(from_bits(a), from_bits(b))), larger)
+    });
+    compare(b"is_finite", &cases::IS_FINITE, |&(n, finite)| {
+        one(
+            n,
+            u32::from(float::is_finite(from_bits(n))),
+            u32::from(finite),
+        )
+    });
+    compare(b"from_bits special", &cases::SPECIAL, |&(n, pattern)| {
+        one(n, bits(from_bits(n)), pattern)
+    });
+    compare(b"from_bits", &cases::VALUES, |&(n, value)| {
+        one(n, bits(from_bits(n)), bits(value))
+    });
 }

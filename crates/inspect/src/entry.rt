@@ -1,8 +1,6 @@
 // The entries of a table in words.
 use console::say;
-use table::Found;
-use table::desk::larger;
-use table::entry::{EntryRead, EntryView, entry_at, metadata_value};
+use table::entry::{EntryView, entry_at, metadata_value};
 use table::start::entries_start;
 use wire::cursor::Cursor;
 
@@ -10,8 +8,8 @@ use wire::cursor::Cursor;
 fn metadata(image: &[u8], v: EntryView, what: &[u8], key: &[u8]) {
     say::text(1, what);
     match metadata_value(image, v, key) {
-        Found::Bits(n) => say::float(1, n),
-        Found::Nothing => say::text(1, b"not given"),
+        Some(n) => say::float(1, n),
+        None => say::text(1, b"not given"),
     }
 }
 
@@ -23,11 +21,11 @@ fn one(image: &[u8], i: usize, v: EntryView) {
     say::text(1, b", stretch ");
     say::float(1, v.stretch);
     say::text(1, b", partials ");
-    say::number(1, v.m_partials as u64);
+    say::number(1, u64::from(v.m_partials));
     say::text(1, b", channels ");
-    say::number(1, v.k_channels as u64);
+    say::number(1, u64::from(v.k_channels));
     say::text(1, b", noise bands ");
-    say::number(1, v.j_noise as u64);
+    say::number(1, u64::from(v.j_noise));
     metadata(image, v, b", mainlobe_gain ", b"mainlobe_gain");
     metadata(image, v, b", noise_gain ", b"noise_gain");
     say::text(1, b"\n");
@@ -38,20 +36,14 @@ fn one(image: &[u8], i: usize, v: EntryView) {
 pub fn all(image: &[u8]) -> u32 {
     let start = entries_start(image);
     let mut c = Cursor { at: start.at };
-    let mut k: u32 = 0;
-    let mut i: usize = 0;
-    while i < start.count {
-        match entry_at(image, c, i) {
-            EntryRead::Entry(v) => {
-                one(image, i, v);
-                k = larger(k, v.k_channels);
-                c = Cursor { at: v.end };
-            }
-            EntryRead::Refused(_) => {
-                return k;
-            }
-        }
-        i += 1;
+    let mut k = 0;
+    for i in 0..start.count {
+        let Ok(v) = entry_at(image, c, i) else {
+            return k;
+        };
+        one(image, i, v);
+        k = k.max(v.k_channels);
+        c = Cursor { at: v.end };
     }
     k
 }

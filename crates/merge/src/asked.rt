@@ -1,132 +1,119 @@
-// What the command line asks for.
+// Reads the command line. What is wrong with an argument is said at once, and those after it are read too.
 use console::{arguments, say};
 use std::rt::Env;
 
-// Arguments by their number on the command line, 0 where there is none. `wrong` says that something is, and what has been said.
+// merge was called wrongly, and why has been said.
+#[derive(Clone, Copy, Debug, PartialEq, Eq)]
+pub struct WrongUse;
+
+// The two tables and the file to write, as arguments by their number on the command line, and whether a file of its name may be replaced.
 #[derive(Clone, Copy)]
-pub struct Asked {
+pub struct Tables {
     pub first: usize,
     pub second: usize,
     pub out: usize,
     pub force: bool,
-    pub help: bool,
-    pub wrong: bool,
+}
+
+#[derive(Clone, Copy)]
+pub enum Asked {
+    Help,
+    Merge(Tables),
+}
+
+// What the arguments so far say.
+#[derive(Clone, Copy, Default)]
+struct Given {
+    first: Option<usize>,
+    second: Option<usize>,
+    out: Option<usize>,
+    force: bool,
+    help: bool,
 }
 
 // Says what is wrong with an argument.
-fn wrong(mut a: Asked, word: &[u8], why: &[u8]) -> Asked {
+fn wrong(word: &[u8], why: &[u8]) -> WrongUse {
     say::text(2, b"merge: ");
     say::name(2, word);
     say::text(2, b": ");
     say::text(2, why);
     say::text(2, b"\n");
-    a.wrong = true;
-    a
+    WrongUse
 }
 
-// What a word is: 1 --force, 2 a call for help, 3 another word that starts with a dash, 4 an empty one, 0 a file.
-fn which(word: &[u8]) -> u32 {
-    if check::same(word, b"--force") {
-        return 1;
-    }
-    if check::same(word, b"--help") {
-        return 2;
-    }
-    if check::same(word, b"-h") {
-        return 2;
-    }
-    if word.len() == 0 {
-        return 4;
-    }
-    if word[0] == 45 { 3 } else { 0 }
-}
-
-// What is asked for with --force too.
-fn with_force(mut a: Asked) -> Asked {
-    if a.force {
-        return wrong(a, b"--force", b"given twice");
-    }
-    a.force = true;
-    a
-}
-
-// What is asked for with the file too that argument i names: the first table, the second, then the file to write.
-fn with_file(mut a: Asked, word: &[u8], i: usize) -> Asked {
-    if a.first == 0 {
-        a.first = i;
-        return a;
-    }
-    if a.second == 0 {
-        a.second = i;
-        return a;
-    }
-    if a.out == 0 {
-        a.out = i;
-        return a;
-    }
-    wrong(a, word, b"one file too many")
-}
-
-// What is asked for with a word too, which is argument i.
-fn with_word(mut a: Asked, word: &[u8], i: usize) -> Asked {
-    let w = which(word);
-    match w {
-        0 => with_file(a, word, i),
-        1 => with_force(a),
-        2 => {
-            a.help = true;
-            a
+impl Given {
+    fn take_force(&mut self) -> Result<(), WrongUse> {
+        if self.force {
+            return Err(wrong(b"--force", b"given twice"));
         }
-        3 => wrong(
-            a,
-            word,
-            b"no such option (write ./ before a file's name that starts with -)",
-        ),
-        _ => wrong(a, b"an argument", b"it is empty, and names no file"),
+        self.force = true;
+        Ok(())
+    }
+
+    // The first table, the second, then the file to write.
+    fn take_file(&mut self, word: &[u8], i: usize) -> Result<(), WrongUse> {
+        if self.first.is_none() {
+            self.first = Some(i);
+        } else if self.second.is_none() {
+            self.second = Some(i);
+        } else if self.out.is_none() {
+            self.out = Some(i);
+        } else {
+            return Err(wrong(word, b"one file too many"));
+        }
+        Ok(())
+    }
+
+    fn take_word(&mut self, word: &[u8], i: usize) -> Result<(), WrongUse> {
+        match word {
+            b"--force" => self.take_force(),
+            b"--help" | b"-h" => {
+                self.help = true;
+                Ok(())
+            }
+            [] => Err(wrong(b"an argument", b"it is empty, and names no file")),
+            [b'-', ..] => Err(wrong(
+                word,
+                b"no such option (write ./ before a file's name that starts with -)",
+            )),
+            _ => self.take_file(word, i),
+        }
+    }
+
+    // Takes argument `i`. A word longer than the buffer is refused by its length.
+    fn take<R: Env>(&mut self, rt: &R, i: usize) -> Result<(), WrongUse> {
+        let mut word = io::buffer();
+        let Some(n) = arguments::read(rt, i, &mut word) else {
+            return Err(wrong(b"an argument", b"longer than 4096 bytes"));
+        };
+        self.take_word(&word[..n], i)
+    }
+
+    // What all arguments together ask for.
+    fn asked(&self) -> Result<Asked, WrongUse> {
+        if self.help {
+            return Ok(Asked::Help);
+        }
+        let (Some(first), Some(second), Some(out)) = (self.first, self.second, self.out) else {
+            say::text(2, b"merge: two tables and a file to write are needed\n");
+            return Err(WrongUse);
+        };
+        Ok(Asked::Merge(Tables {
+            first,
+            second,
+            out,
+            force: self.force,
+        }))
     }
 }
 
-// What is asked for with argument i too.
-fn with<R: Env>(rt: &R, a: Asked, i: usize) -> Asked {
-    let mut word = io::buffer();
-    let given = arguments::read(rt, i, &mut word);
-    if !given.whole {
-        return wrong(a, b"an argument", b"longer than 4096 bytes");
-    }
-    let n = given.bytes;
-    with_word(a, &word[..n], i)
-}
-
-// Reads all arguments.
-pub fn read<R: Env>(rt: &R) -> Asked {
+pub fn read<R: Env>(rt: &R) -> Result<Asked, WrongUse> {
     let count = arguments::count(rt, usize::MAX);
-    let mut a = Asked {
-        first: 0,
-        second: 0,
-        out: 0,
-        force: false,
-        help: false,
-        wrong: false,
-    };
-    let mut i = 1;
-    while i < count {
-        a = with(rt, a, i);
-        i += 1;
+    let mut given = Given::default();
+    let mut well = Ok(());
+    for i in 1..count {
+        well = well.and(given.take(rt, i));
     }
-    a
-}
-
-// Whether the arguments can be followed. What is wrong with them has been said.
-pub fn is_right(a: Asked) -> bool {
-    if a.wrong {
-        return false;
-    }
-    if a.help {
-        return true;
-    }
-    if a.out == 0 {
-        say::text(2, b"merge: two tables and a file to write are needed\n");
-        return false;
-    }
-    true
+    well?;
+    given.asked()
 }

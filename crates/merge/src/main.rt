@@ -9,9 +9,9 @@
 
 mod asked;
 
-use asked::Asked;
-use console::output::Program;
-use console::{crc, file, output, say, words};
+use asked::{Asked, Tables};
+use console::output::{Output, Program};
+use console::{Failed, crc, file, output, say, words};
 use sounder::MergeAnswer;
 use sounder::images::sounder_from_bytes;
 use sounder::merges::sounder_merge;
@@ -39,24 +39,24 @@ fn usage<R: Print>(rt: &R) {
 }
 
 // Says which files are refused: one of the two tables, or both where they do not go together.
-fn say_refused<R: Env>(rt: &R, a: Asked, image: u32) {
+fn say_refused<R: Env>(rt: &R, t: Tables, image: u32) {
     match image {
-        1 => say::argument(rt, 2, a.first),
-        2 => say::argument(rt, 2, a.second),
+        1 => say::argument(rt, 2, t.first),
+        2 => say::argument(rt, 2, t.second),
         _ => {
-            say::argument(rt, 2, a.first);
+            say::argument(rt, 2, t.first);
             say::text(2, b" and ");
-            say::argument(rt, 2, a.second);
+            say::argument(rt, 2, t.second);
         }
     }
 }
 
-fn refuse<R: Env>(rt: &R, a: Asked, m: MergeAnswer) {
-    say_refused(rt, a, m.image);
+fn refuse<R: Env>(rt: &R, t: Tables, m: MergeAnswer) -> Failed {
+    say_refused(rt, t, m.image);
     say::text(2, b": ");
-    let answer = m.answer;
-    words::refusal(2, answer);
+    words::refusal(2, m.answer);
     say::text(2, b"\n");
+    Failed
 }
 
 // What was read of a file, in words.
@@ -78,102 +78,87 @@ fn report<R: Print>(rt: &R, path: &[u8], entries: usize, merged: &[u8]) {
     say::last(rt, b"\n");
 }
 
-// Whether every byte was written into the part. Where not, why has been said.
-fn is_written<W: Write>(file: &mut W, part: &[u8], merged: &[u8]) -> bool {
-    match file.write_all(merged) {
-        Ok(()) => true,
-        Err(e) => {
-            say::failed(part, e);
-            false
-        }
-    }
-}
-
 // Writes the merged table into the part, which becomes the file.
 fn write<R: Files<File = File> + Print>(
     rt: &R,
-    force: bool,
-    path: &[u8],
-    part: &[u8],
+    output: Output,
     entries: usize,
     merged: &[u8],
-) {
-    match output::open(rt, Program::Merge, part) {
-        Some(mut file) => {
-            let whole = is_written(&mut file, part, merged);
-            if output::keep(rt, Program::Merge, file, path, part, whole, force) {
-                report(rt, path, entries, merged);
-            }
-        }
-        None => {}
+) -> Result<(), Failed> {
+    let mut file = output.open(rt)?;
+    let written = file.write_all(merged);
+    if let Err(e) = written {
+        say::failed(output.part, e);
     }
+    output.keep(rt, file, written.is_ok())?;
+    report(rt, output.path, entries, merged);
+    Ok(())
 }
 
 // Merges what was read. Every table fits the target.
 fn merge<R: Files<File = File> + Env + Print>(
     rt: &R,
-    a: Asked,
-    path: &[u8],
-    part: &[u8],
+    t: Tables,
+    output: Output,
     first: &[u8],
     second: &[u8],
-) {
+) -> Result<(), Failed> {
     let mut target = io::large_buffer();
     let m = sounder_merge(first, second, &mut target);
     let answer = m.answer;
     if answer.number != 0 {
-        refuse(rt, a, m);
-        return;
+        return Err(refuse(rt, t, m));
     }
-    describe(rt, a.first, first);
-    describe(rt, a.second, second);
+    describe(rt, t.first, first);
+    describe(rt, t.second, second);
     let n = answer.second;
-    if n <= 65536 {
-        write(rt, a.force, path, part, answer.first, &target[..n]);
+    if 65536 < n {
+        return Err(Failed);
     }
+    write(rt, output, answer.first, &target[..n])
 }
 
-// Reads both tables, each into a byte more than a table can have, so that one which is too long is known.
-fn read_both<R: Files<File = File> + Env + Print>(rt: &R, a: Asked, path: &[u8], part: &[u8]) {
+// Reads both tables, each into a byte more than a table can have, so a longer file is known without being read to its end.
+fn read_both<R: Files<File = File> + Env + Print>(
+    rt: &R,
+    t: Tables,
+    output: Output,
+) -> Result<(), Failed> {
     let mut first = [0u8; 65537];
-    let r = file::read_argument(rt, a.first, &mut first);
-    if r.failed {
-        return;
-    }
+    let n = file::read_argument(rt, t.first, &mut first)?;
     let mut second = [0u8; 65537];
-    let s = file::read_argument(rt, a.second, &mut second);
-    if s.failed {
-        return;
-    }
-    let n = r.bytes;
-    let k = s.bytes;
-    merge(rt, a, path, part, &first[..n], &second[..k]);
+    let k = file::read_argument(rt, t.second, &mut second)?;
+    merge(rt, t, output, &first[..n], &second[..k])
 }
 
 // Whether the file can be written is asked before a table is read.
-fn run<R: Files<File = File> + Env + Print>(rt: &R, a: Asked) {
+fn run<R: Files<File = File> + Env + Print>(rt: &R, t: Tables) -> Result<(), Failed> {
     let mut path = io::buffer();
-    let n = output::name(rt, Program::Merge, a.out, a.force, &mut path);
-    if n == 0 {
-        return;
-    }
+    let n = output::name(rt, Program::Merge, t.out, t.force, &mut path)?;
     let mut part = io::buffer();
-    let k = output::part(rt, a.out, &mut part);
-    read_both(rt, a, &path[..n], &part[..k]);
+    let k = output::part(rt, t.out, &mut part).ok_or(Failed)?;
+    let output = Output {
+        by: Program::Merge,
+        path: &path[..n],
+        part: &part[..k],
+        replace: t.force,
+    };
+    read_both(rt, t, output)
 }
 
 fn main(rt: HostRuntime) {
-    let a = asked::read(&rt);
-    if !asked::is_right(a) {
+    let Ok(asked) = asked::read(&rt) else {
         say::wrong_use(b"merge");
         return;
-    }
-    if output::standard_output(&rt.stdout()) < 0 {
+    };
+    if output::standard_output(&rt.stdout()).is_err() {
         return;
     }
-    if a.help {
-        usage(&rt);
-        return;
+    match asked {
+        Asked::Help => usage(&rt),
+        Asked::Merge(tables) => {
+            // why it failed has been said, and the status is 0 in any case
+            let _ = run(&rt, tables);
+        }
     }
-    run(&rt, a);
 }

@@ -1,67 +1,85 @@
-// The words of a list: little-endian u32 numbers, bytes and floats with their count before them. Past the end of the bytes stand zeros.
-use wire::cursor::{Cursor, U32Read};
+// The words of a record, read one after another: little-endian u32 numbers, bytes and floats with their count before them. Past the end of
+// the record stand zeros.
+use sounder::Answer;
 
-// A sum that stays below 2^64.
-pub fn plus(a: usize, b: usize) -> usize {
-    if b <= usize::MAX - a {
-        a + b
-    } else {
-        usize::MAX
+// No slice of floats in a list is longer.
+pub const FLOATS: usize = 1100;
+
+#[derive(Clone, Copy)]
+pub struct Words<'a> {
+    rest: &'a [u8],
+}
+
+impl<'a> Words<'a> {
+    pub fn new(record: &'a [u8]) -> Words<'a> {
+        Words { rest: record }
     }
-}
 
-// The word at a position.
-pub fn word(s: &[u8], at: usize) -> u32 {
-    match (Cursor { at }).u32(s) {
-        U32Read::Value(v, _) => v,
-        U32Read::UnexpectedEof => 0,
+    pub fn is_empty(&self) -> bool {
+        self.rest.is_empty()
     }
-}
 
-pub fn count(s: &[u8], at: usize) -> usize {
-    word(s, at) as usize
-}
+    // Leaves out the rest of the record.
+    pub fn end(&mut self) {
+        self.rest = &[];
+    }
 
-pub fn float_at(s: &[u8], at: usize) -> f32 {
-    float::from_bits(word(s, at))
-}
-
-// The bytes whose count stands at a position; none where they are not all there.
-pub fn bytes_at(s: &[u8], at: usize) -> &[u8] {
-    let from = plus(at, 4);
-    let to = plus(from, count(s, at));
-    if from <= to {
-        if to <= s.len() {
-            return &s[from..to];
+    pub fn word(&mut self) -> u32 {
+        match self.rest.split_first_chunk::<4>() {
+            Some((word, rest)) => {
+                self.rest = rest;
+                u32::from_le_bytes(*word)
+            }
+            None => {
+                self.end();
+                0
+            }
         }
     }
-    &s[..0]
-}
 
-// Where such bytes end.
-pub fn after_bytes(s: &[u8], at: usize) -> usize {
-    plus(plus(at, 4), count(s, at))
-}
-
-// The position of the nth word from a position on.
-pub fn place(at: usize, n: usize) -> usize {
-    let two = plus(n, n);
-    plus(at, plus(two, two))
-}
-
-// The first n bytes; none where they are not all there.
-pub fn first(x: &[u8], n: usize) -> &[u8] {
-    if n <= x.len() {
-        return &x[..n];
+    pub fn count(&mut self) -> usize {
+        self.word() as usize
     }
-    &x[..0]
-}
 
-// Fills a slice with floats from a position on.
-pub fn fill(s: &[u8], at: usize, out: &mut [f32]) {
-    let mut i = 0;
-    while i < out.len() {
-        out[i] = float_at(s, place(at, i));
-        i += 1;
+    pub fn float(&mut self) -> f32 {
+        float::from_bits(self.word())
+    }
+
+    pub fn answer(&mut self) -> Answer {
+        Answer {
+            number: self.word(),
+            first: self.count(),
+            second: self.count(),
+        }
+    }
+
+    // Bytes; none where they are not all there.
+    pub fn bytes(&mut self) -> &'a [u8] {
+        let n = self.count();
+        match self.rest.split_at_checked(n) {
+            Some((bytes, rest)) => {
+                self.rest = rest;
+                bytes
+            }
+            None => {
+                self.end();
+                &[]
+            }
+        }
+    }
+
+    // Floats, put to the start of a buffer.
+    pub fn floats<'b>(&mut self, buffer: &'b mut [f32; FLOATS]) -> &'b [f32] {
+        let n = self.count().min(FLOATS);
+        for x in &mut buffer[..n] {
+            *x = self.float();
+        }
+        &buffer[..n]
+    }
+
+    // A play's input: how many channels it has, and its samples.
+    pub fn input<'b>(&mut self, buffer: &'b mut [f32; FLOATS]) -> (usize, &'b [f32]) {
+        let channels = self.count();
+        (channels, self.floats(buffer))
     }
 }

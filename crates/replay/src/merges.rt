@@ -1,57 +1,28 @@
 // Records of merging: two images, a target and the original's answers (compare/driver/list.rs has the form).
-use crate::list::{after_bytes, bytes_at, first, place, word};
-use crate::reading::{same_bytes, target_of};
-use crate::tally::{Tally, answered, narrow, same};
-use sounder::Answer;
+use crate::list::Words;
+use crate::reading::TARGET;
+use crate::tally::Tally;
 use sounder::merges::sounder_merge;
 
-fn answer(t: Tally, r: &[u8], at: usize, ours: Answer) -> Tally {
-    let t = same(t, b"the merge's number", 0, ours.number, word(r, at));
-    let t = same(
-        t,
-        b"the merge's first value",
-        0,
-        narrow(ours.first),
-        word(r, place(at, 1)),
-    );
-    same(
-        t,
-        b"the merge's second value",
-        0,
-        narrow(ours.second),
-        word(r, place(at, 2)),
-    )
-}
-
-// The target before, the answer, the target afterwards.
-fn merging(t: Tally, r: &[u8], at: usize, one: &[u8], other: &[u8]) -> Tally {
-    let before = bytes_at(r, at);
-    let n = before.len();
-    if 4096 < n {
-        return same(
-            t,
+pub fn record(t: &mut Tally, mut w: Words) {
+    let one = w.bytes();
+    let other = w.bytes();
+    // the target before, the answer, the target afterwards
+    let before = w.bytes();
+    let mut buffer = [0; TARGET];
+    let Some(target) = buffer.get_mut(..before.len()) else {
+        t.same_count(
             b"a target that is too long for the replay",
             0,
             0,
-            narrow(n),
+            before.len(),
         );
-    }
-    let mut target = target_of(before);
-    let m = sounder_merge(one, other, &mut target[..n]);
-    let a = m.answer;
-    let at = after_bytes(r, at);
-    let t = answered(t, a.number);
-    let t = answer(t, r, at, a);
-    let t = same(t, b"the merge's image", 0, m.image, word(r, place(at, 3)));
-    same_bytes(
-        t,
-        b"a byte of the merged table",
-        first(&target, n),
-        bytes_at(r, place(at, 4)),
-    )
-}
-
-pub fn record(t: Tally, r: &[u8]) -> Tally {
-    let at = after_bytes(r, 0);
-    merging(t, r, after_bytes(r, at), bytes_at(r, 0), bytes_at(r, at))
+        return;
+    };
+    target.copy_from_slice(before);
+    let m = sounder_merge(one, other, target);
+    t.answered(m.answer.number);
+    t.same_answer(b"the merge's", m.answer, w.answer());
+    t.same(b"the merge's image", 0, m.image, w.word());
+    t.same_bytes(b"a byte of the merged table", target, w.bytes());
 }

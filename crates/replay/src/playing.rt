@@ -1,265 +1,103 @@
 // Records of making and playing: a making, and the calls on its voice (compare/driver/playing/list.rs has the form).
-ghost use Rattle.std.specs.Prelude.{◌≡◌, length};
-
-use crate::list::{after_bytes, bytes_at, count, fill, float_at, place, plus, word};
-use crate::places::{after_changes, band, blank, changed, same_voice, without_unread};
-use crate::tally::{Tally, answered, more, narrow, same, same_float};
-use filters::{BiquadCoeffs, biquad_noise_power_gain};
-use sounder::Answer;
+use crate::list::{FLOATS, Words};
+use crate::places::{band, blank, changed, same_voice, without_unread};
+use crate::tally::Tally;
+use filters::biquad_noise_power_gain;
 use sounder::voices::{sounder_make, sounder_play, sounder_reseed, sounder_reset, sounder_retune};
-use voice::{Played, Shape, Voice};
+use voice::{LISTS_PLACES, Played, Shape, Voice};
 
-// What a call leaves: the counts, the voice that the list goes on with, and where the next call stands.
-#[derive(Clone, Copy)]
-struct Step {
-    tally: Tally,
-    voice: Voice,
-    at: usize,
-}
-
-// The floats of a list's slice, from a position on; no slice in a list is longer.
-fn floats_at(r: &[u8], at: usize) -> [f32; 1100]
-    ensures { 1100 ≡ length result }
-{
-    let mut x = [0.0; 1100];
-    fill(r, at, &mut x);
-    x
-}
-
-// The first n of them.
-fn first(x: &[f32], n: usize) -> &[f32] {
-    if n <= x.len() {
-        return &x[..n];
-    }
-    &x[..0]
-}
-
-// Where an input starts that stands after another: its channels, the count and the floats.
-fn after_input(r: &[u8], at: usize) -> usize {
-    place(place(at, 2), count(r, plus(at, 4)))
-}
-
-// Samples against the list's.
-fn same_samples(t: Tally, r: &[u8], at: usize, ours: &[f32]) -> Tally {
-    let mut t = t;
-    let mut i = 0;
-    while i < ours.len() {
-        t = same_float(t, b"a sample", i, ours[i], float_at(r, place(at, i)));
-        i += 1;
-    }
-    t.samples = more(t.samples, ours.len() as u64);
-    t
-}
-
-// A refused play leaves the output.
-fn same_filling(t: Tally, ours: &[f32]) -> Tally {
-    let mut t = t;
-    let mut i = 0;
-    while i < ours.len() {
-        t = same_float(t, b"a sample of a refused play", i, ours[i], 9.0);
-        i += 1;
-    }
-    t
-}
-
-// A call's answer, on a voice as it was given and as it stood before the changes; the number stands at the position.
+// A call's answer, on a voice as it was given; the list goes on with the voice after it, or, where it is refused, with the one before the
+// changes. Answers whether it was refused.
 fn concluded(
-    t: Tally,
-    r: &[u8],
-    at: usize,
+    t: &mut Tally,
+    w: &mut Words,
     what: &[u8],
-    before: Voice,
-    given: Voice,
-    ours: Played,
-) -> Step {
-    let number = word(r, at);
-    let after = ours.voice;
-    let t = answered(t, ours.number);
-    let t = same(t, what, 0, ours.number, number);
+    voice: &mut Voice,
+    given: &Voice,
+    ours: &Played,
+) -> bool {
+    let number = w.word();
+    t.answered(ours.number);
+    t.same(what, 0, ours.number, number);
     if number != 0 {
-        let tally = same_voice(t, after, given);
-        return Step {
-            tally,
-            voice: before,
-            at: plus(at, 4),
-        };
+        same_voice(t, &ours.voice, given);
+        return true;
     }
-    let tally = same_voice(t, after, changed(given, r, plus(at, 4)));
-    Step {
-        tally,
-        voice: after,
-        at: after_changes(r, plus(at, 4)),
+    let theirs = changed(given, w);
+    same_voice(t, &ours.voice, &theirs);
+    *voice = ours.voice;
+    false
+}
+
+// A play: samples, frequency, four gains, channels, the output's length; then the answer, and the samples, which are those that stood there
+// before where it is refused.
+fn played(t: &mut Tally, w: &mut Words, voice: &mut Voice, given: &Voice) {
+    let [mut f, mut a, mut b, mut c, mut d] = [[0.0; FLOATS]; 5];
+    let samples = w.count();
+    let (freq_channels, freq) = w.input(&mut f);
+    let (g0_channels, g0) = w.input(&mut a);
+    let (g1_channels, g1) = w.input(&mut b);
+    let (g2_channels, g2) = w.input(&mut c);
+    let (g3_channels, g3) = w.input(&mut d);
+    let shape = Shape {
+        samples,
+        channels: w.count(),
+        freq: freq_channels,
+        g0: g0_channels,
+        g1: g1_channels,
+        g2: g2_channels,
+        g3: g3_channels,
+    };
+    let len = w.count();
+    let mut buffer = [9.0; FLOATS];
+    let Some(out) = buffer.get_mut(..len) else {
+        t.same_count(b"an output too long for the replay", 0, 0, len);
+        w.end();
+        return;
+    };
+    let ours = sounder_play(*given, shape, freq, g0, g1, g2, g3, out);
+    if concluded(t, w, b"the play's number", voice, given, &ours) {
+        for (i, x) in out.iter().enumerate() {
+            t.same_float(b"a sample of a refused play", i, *x, 9.0);
+        }
+    } else {
+        for (i, x) in out.iter().enumerate() {
+            t.same_float(b"a sample", i, *x, w.float());
+        }
+        t.samples = t.samples.saturating_add(len as u64);
     }
-}
-
-// Where a play's inputs stand, and what is after them: the output's channels.
-#[derive(Clone, Copy)]
-struct Inputs {
-    freq: usize,
-    g0: usize,
-    g1: usize,
-    g2: usize,
-    g3: usize,
-    end: usize,
-}
-
-fn inputs_at(r: &[u8], at: usize) -> Inputs {
-    let g0 = after_input(r, at);
-    let g1 = after_input(r, g0);
-    let g2 = after_input(r, g1);
-    let g3 = after_input(r, g2);
-    Inputs {
-        freq: at,
-        g0,
-        g1,
-        g2,
-        g3,
-        end: after_input(r, g3),
-    }
-}
-
-// The block's numbers: its samples stand before the inputs.
-fn shape_at(r: &[u8], at: usize, inputs: Inputs) -> Shape {
-    Shape {
-        samples: count(r, at),
-        channels: count(r, inputs.end),
-        freq: count(r, inputs.freq),
-        g0: count(r, inputs.g0),
-        g1: count(r, inputs.g1),
-        g2: count(r, inputs.g2),
-        g3: count(r, inputs.g3),
-    }
-}
-
-// The play whose arguments stand at a position: samples, frequency, four gains, channels.
-fn play_into(given: Voice, r: &[u8], at: usize, out: &mut [f32]) -> Played {
-    let inputs = inputs_at(r, plus(at, 4));
-    let freq = floats_at(r, plus(inputs.freq, 8));
-    let g0 = floats_at(r, plus(inputs.g0, 8));
-    let g1 = floats_at(r, plus(inputs.g1, 8));
-    let g2 = floats_at(r, plus(inputs.g2, 8));
-    let g3 = floats_at(r, plus(inputs.g3, 8));
-    sounder_play(
-        given,
-        shape_at(r, at, inputs),
-        first(&freq, count(r, plus(inputs.freq, 4))),
-        first(&g0, count(r, plus(inputs.g0, 4))),
-        first(&g1, count(r, plus(inputs.g1, 4))),
-        first(&g2, count(r, plus(inputs.g2, 4))),
-        first(&g3, count(r, plus(inputs.g3, 4))),
-        out,
-    )
-}
-
-// Where the output's length stands: after samples, five inputs and channels.
-fn after_inputs(r: &[u8], at: usize) -> usize {
-    let inputs = inputs_at(r, plus(at, 4));
-    plus(inputs.end, 4)
-}
-
-// The play's samples: the list's, or those that stood there before where it is refused.
-fn sounded(t: Tally, r: &[u8], at: usize, number: u32, ours: &[f32]) -> Tally {
-    if number != 0 {
-        return same_filling(t, ours);
-    }
-    same_samples(t, r, at, ours)
-}
-
-// What stands in the output before a play.
-fn unplayed() -> [f32; 1100]
-    ensures { 1100 ≡ length result }
-{
-    [9.0; 1100]
-}
-
-fn played(t: Tally, r: &[u8], at: usize, before: Voice, given: Voice) -> Step {
-    let at_len = after_inputs(r, at);
-    let len = count(r, at_len);
-    if 1100 < len {
-        return Step {
-            tally: same(t, b"an output too long for the replay", 0, 0, narrow(len)),
-            voice: before,
-            at: r.len(),
-        };
-    }
-    let mut out = unplayed();
-    let ours = play_into(given, r, at, &mut out[..len]);
-    let at_number = plus(at_len, 4);
-    let number = word(r, at_number);
-    let step = concluded(t, r, at_number, b"the play's number", before, given, ours);
-    let t = step.tally;
-    let voice = step.voice;
-    let tally = sounded(t, r, step.at, number, first(&out, len));
-    Step {
-        tally,
-        voice,
-        at: after_samples(step.at, number, len),
-    }
-}
-
-// A refused play has no samples in the list.
-fn after_samples(at: usize, number: u32, len: usize) -> usize {
-    if number != 0 {
-        return at;
-    }
-    place(at, len)
 }
 
 // A call: the changes before it, which call it is, and its arguments.
-fn call(t: Tally, r: &[u8], at: usize, before: Voice) -> Step {
-    let given = changed(before, r, at);
-    let at = after_changes(r, at);
-    match word(r, at) {
-        0 => played(t, r, place(at, 1), before, given),
-        1 => concluded(
-            t,
-            r,
-            place(at, 1),
-            b"the reset's number",
-            before,
-            given,
-            sounder_reset(given),
-        ),
-        2 => concluded(
-            t,
-            r,
-            place(at, 2),
-            b"the reseed's number",
-            before,
-            given,
-            sounder_reseed(given, word(r, place(at, 1))),
-        ),
-        _ => concluded(
-            t,
-            r,
-            place(at, 2),
-            b"the retune's number",
-            before,
-            given,
-            sounder_retune(given, float_at(r, place(at, 1))),
-        ),
+fn call(t: &mut Tally, w: &mut Words, voice: &mut Voice) {
+    let given = changed(voice, w);
+    match w.word() {
+        0 => played(t, w, voice, &given),
+        1 => {
+            let ours = sounder_reset(given);
+            concluded(t, w, b"the reset's number", voice, &given, &ours);
+        }
+        2 => {
+            let ours = sounder_reseed(given, w.word());
+            concluded(t, w, b"the reseed's number", voice, &given, &ours);
+        }
+        _ => {
+            let ours = sounder_retune(given, w.float());
+            concluded(t, w, b"the retune's number", voice, &given, &ours);
+        }
     }
 }
 
-fn calls(t: Tally, r: &[u8], at: usize, v: Voice) -> Tally {
-    let n = count(r, at);
-    let mut s = Step {
-        tally: t,
-        voice: v,
-        at: plus(at, 4),
-    };
-    let mut i = 0;
-    while i < n && i < r.len() {
-        let mut t = s.tally;
+fn calls(t: &mut Tally, w: &mut Words, mut voice: Voice) {
+    for i in 0..w.count() {
+        if w.is_empty() {
+            break;
+        }
         t.call = i as u64;
-        t.calls = more(t.calls, 1);
-        let v = s.voice;
-        s = call(t, r, s.at, v);
-        i += 1;
+        t.calls = t.calls.saturating_add(1);
+        call(t, w, &mut voice);
     }
-    let mut t = s.tally;
     t.call = 0;
-    t
 }
 
 // The centre that a band is made for.
@@ -267,77 +105,30 @@ fn centre(raw: f32, rate: f32) -> f32 {
     float::max(float::min(raw, rate * 0.5 * 0.9), 20.0)
 }
 
-// A band's ring count and noise power.
-fn rung_band(
-    t: Tally,
-    r: &[u8],
-    at: usize,
-    i: usize,
-    raw: f32,
-    rate: f32,
-    c: BiquadCoeffs,
-) -> Tally {
-    let ours = biquad_noise_power_gain(centre(raw, rate), 1.0, rate, c);
-    let t = same(t, b"a ring count", i, ours.n, word(r, at));
-    same_float(t, b"a noise power", i, ours.power, float_at(r, plus(at, 4)))
-}
-
-// Those of each band, from a position on.
-fn rung(t: Tally, r: &[u8], at: usize, lists: &[f32], rate: f32, centres: &[f32]) -> Tally {
-    let mut t = t;
-    let mut i = 0;
-    while i < centres.len() {
-        t = rung_band(
-            t,
-            r,
-            place(place(at, i), i),
-            i,
-            centres[i],
-            rate,
-            band(lists, i),
-        );
-        i += 1;
+// Each band's ring count and noise power.
+fn rung(t: &mut Tally, w: &mut Words, lists: &[f32; LISTS_PLACES], rate: f32, centres: &[f32]) {
+    for (i, raw) in centres.iter().enumerate() {
+        let ours = biquad_noise_power_gain(centre(*raw, rate), 1.0, rate, band(lists, i));
+        t.same(b"a ring count", i, ours.n, w.word());
+        t.same_float(b"a noise power", i, ours.power, w.float());
     }
-    t
 }
 
-fn made(t: Tally, r: &[u8], at: usize, ours: Answer) -> Tally {
-    let t = answered(t, ours.number);
-    let t = same(t, b"the making's number", 0, ours.number, word(r, at));
-    let t = same(
-        t,
-        b"the making's first value",
-        0,
-        narrow(ours.first),
-        word(r, place(at, 1)),
-    );
-    same(
-        t,
-        b"the making's second value",
-        0,
-        narrow(ours.second),
-        word(r, place(at, 2)),
-    )
-}
-
-pub fn record(t: Tally, r: &[u8]) -> Tally {
-    let image = bytes_at(r, 8);
-    let at = after_bytes(r, 8);
-    let rate = float_at(r, at);
-    let centres = floats_at(r, plus(at, 8));
-    let n = count(r, plus(at, 4));
-    let at = place(place(at, 2), n);
-    let given = first(&centres, n);
-    let m = sounder_make(word(r, 0), word(r, 4), image, rate, given);
-    let a = m.answer;
-    let v = m.voice;
-    let t = made(t, r, at, a);
-    let fresh = changed(blank(), r, place(at, 3));
-    let t = same_voice(t, without_unread(v), fresh);
-    if word(r, at) != 0 {
-        return t;
+pub fn record(t: &mut Tally, mut w: Words) {
+    let kind = w.word();
+    let channel = w.word();
+    let image = w.bytes();
+    let rate = w.float();
+    let mut buffer = [0.0; FLOATS];
+    let centres = w.floats(&mut buffer);
+    let m = sounder_make(kind, channel, image, rate, centres);
+    t.answered(m.answer.number);
+    let theirs = w.answer();
+    t.same_answer(b"the making's", m.answer, theirs);
+    let fresh = changed(&blank(), &mut w);
+    same_voice(t, &without_unread(&m.voice), &fresh);
+    if theirs.number == 0 {
+        rung(t, &mut w, &m.voice.lists, rate, centres);
+        calls(t, &mut w, m.voice);
     }
-    let at = after_changes(r, place(at, 3));
-    let t = rung(t, r, at, &v.lists, rate, given);
-    calls(t, r, place(place(at, n), n), v)
 }

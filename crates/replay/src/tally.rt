@@ -1,4 +1,6 @@
 // What a replay counts, and how a difference is told.
+use sounder::Answer;
+
 #[derive(Clone, Copy)]
 pub struct Tally {
     pub record: u64, // the present record and the present call of its list, each from 0
@@ -9,82 +11,105 @@ pub struct Tally {
     pub answers: [u64; 24], // answers by their number
 }
 
-pub fn start() -> Tally {
-    Tally {
-        record: 0,
-        call: 0,
-        calls: 0,
-        samples: 0,
-        differences: 0,
-        answers: [0; 24],
-    }
-}
-
-// A sum that stays below 2^64.
-pub fn more(a: u64, b: u64) -> u64 {
-    if b <= u64::MAX - a { a + b } else { u64::MAX }
-}
-
-// Counts an answer by its number.
-pub fn answered(mut t: Tally, number: u32) -> Tally {
-    let n = number as usize;
-    if n < 24 {
-        t.answers[n] = more(t.answers[n], 1);
-    }
-    t
-}
-
-// Tells and counts a difference: what differs, at which index, and both sides' words.
-fn differ(mut t: Tally, what: &[u8], index: usize, ours: u32, theirs: u32) -> Tally {
-    t.differences = more(t.differences, 1);
-    // no more than are of use
-    if t.differences <= 60 {
-        io::write_all(1, b"  record ");
-        io::print_decimal(1, t.record);
-        io::write_all(1, b", call ");
-        io::print_decimal(1, t.call);
-        io::write_all(1, b": ");
-        io::write_all(1, what);
-        io::write_all(1, b" at ");
-        io::print_decimal(1, index as u64);
-        io::write_all(1, b": ours ");
-        io::print_hex(1, ours as u64, 8);
-        io::write_all(1, b", the original's ");
-        io::print_hex(1, theirs as u64, 8);
-        io::write_all(1, b"\n");
-    }
-    t
-}
-
-// Compares two words.
-pub fn same(t: Tally, what: &[u8], index: usize, ours: u32, theirs: u32) -> Tally {
-    if ours == theirs {
-        return t;
-    }
-    differ(t, what, index, ours, theirs)
-}
-
 // The bits of a float; one for every NaN.
-pub fn bits(x: f32) -> u32 {
-    if x != x {
-        return 0x7fc0_0000;
-    }
-    f32::to_bits(x)
-}
-
-pub fn same_float(t: Tally, what: &[u8], index: usize, ours: f32, theirs: f32) -> Tally {
-    same(t, what, index, bits(ours), bits(theirs))
+fn bits(x: f32) -> u32 {
+    if x.is_nan() { 0x7fc0_0000 } else { x.to_bits() }
 }
 
 // A whole number as a word: the largest word for one that is larger.
-pub fn narrow(n: usize) -> u32 {
-    if n <= 0xffff_ffff {
-        n as u32
-    } else {
-        0xffff_ffff
-    }
+fn narrow(n: usize) -> u32 {
+    u32::try_from(n).unwrap_or(u32::MAX)
 }
 
-pub fn same_count(t: Tally, what: &[u8], index: usize, ours: usize, theirs: usize) -> Tally {
-    same(t, what, index, narrow(ours), narrow(theirs))
+impl Tally {
+    pub fn new() -> Tally {
+        Tally {
+            record: 0,
+            call: 0,
+            calls: 0,
+            samples: 0,
+            differences: 0,
+            answers: [0; 24],
+        }
+    }
+
+    // Counts an answer by its number.
+    pub fn answered(&mut self, number: u32) {
+        if let Some(n) = self.answers.get_mut(number as usize) {
+            *n = n.saturating_add(1);
+        }
+    }
+
+    // Tells a difference: what differs, whose part it is, at which index, and both sides' words. Printing is by `io`, so that a comparison
+    // needs no handle and no answer of its own.
+    fn tell(&self, whose: &[u8], part: &[u8], index: usize, ours: u32, theirs: u32) {
+        io::write_all(1, b"  record ");
+        io::print_decimal(1, self.record);
+        io::write_all(1, b", call ");
+        io::print_decimal(1, self.call);
+        io::write_all(1, b": ");
+        io::write_all(1, whose);
+        io::write_all(1, part);
+        io::write_all(1, b" at ");
+        io::print_decimal(1, index as u64);
+        io::write_all(1, b": ours ");
+        io::print_hex(1, u64::from(ours), 8);
+        io::write_all(1, b", the original's ");
+        io::print_hex(1, u64::from(theirs), 8);
+        io::write_all(1, b"\n");
+    }
+
+    // Compares two words. Of the differences no more are told than are of use.
+    fn compare(&mut self, whose: &[u8], part: &[u8], index: usize, ours: u32, theirs: u32) {
+        if ours != theirs {
+            self.differences = self.differences.saturating_add(1);
+            if self.differences <= 60 {
+                self.tell(whose, part, index, ours, theirs);
+            }
+        }
+    }
+
+    pub fn same(&mut self, what: &[u8], index: usize, ours: u32, theirs: u32) {
+        self.compare(what, b"", index, ours, theirs);
+    }
+
+    pub fn same_count(&mut self, what: &[u8], index: usize, ours: usize, theirs: usize) {
+        self.same(what, index, narrow(ours), narrow(theirs));
+    }
+
+    pub fn same_float(&mut self, what: &[u8], index: usize, ours: f32, theirs: f32) {
+        self.same(what, index, bits(ours), bits(theirs));
+    }
+
+    pub fn same_bytes(&mut self, what: &[u8], ours: &[u8], theirs: &[u8]) {
+        self.same_count(what, 0, ours.len(), theirs.len());
+        for (i, (a, b)) in ours.iter().zip(theirs).enumerate() {
+            self.same(what, i, u32::from(*a), u32::from(*b));
+        }
+    }
+
+    pub fn same_floats(&mut self, what: &[u8], ours: &[f32], theirs: &[f32]) {
+        for (i, (a, b)) in ours.iter().zip(theirs).enumerate() {
+            self.same_float(what, i, *a, *b);
+        }
+    }
+
+    // Compares two answers, of which `whose` says what answered.
+    pub fn same_answer(&mut self, whose: &[u8], ours: Answer, theirs: Answer) {
+        self.compare(whose, b" number", 0, ours.number, theirs.number);
+        self.compare(
+            whose,
+            b" first value",
+            0,
+            narrow(ours.first),
+            narrow(theirs.first),
+        );
+        self.compare(
+            whose,
+            b" second value",
+            0,
+            narrow(ours.second),
+            narrow(theirs.second),
+        );
+    }
 }

@@ -6,17 +6,22 @@
 // script tools/tone turns words there into status 1, and into 2 where the last of them are those of wrong use.
 #![tactic(auto)]
 
+mod flags;
 mod options;
 mod output;
 mod plan;
 mod playing;
+mod reading;
 mod sink;
+mod values;
 mod wav;
 
-use console::{centres, file, say, words};
+use console::{Failed, centres, file, say, words};
+use flags::Flag;
 use options::Options;
 use plan::Loudness;
 use playing::bits;
+use reading::Asked;
 use sounder::Answer;
 use sounder::images::{sounder_desk, sounder_from_bytes};
 use sounder::voices::{sounder_make, sounder_reseed};
@@ -108,15 +113,14 @@ fn describe(image: &[u8], entries: usize, partials: usize, bands: usize) {
 }
 
 // Which pitch is played.
-fn describe_pitch(o: Options) {
+fn describe_pitch(o: &Options) {
     say::text(1, b"pitch ");
-    say::float(1, bits(o.freq));
-    if o.glides {
+    say::float(1, bits(o.pitch()));
+    if let Some(to) = o.to {
         say::text(1, b" to ");
-        say::float(1, bits(o.to));
+        say::float(1, bits(to));
     }
-    let given = o.given;
-    if given[3] {
+    if o.freq.is_some() {
         say::text(1, b" Hz\n");
     } else {
         say::text(1, b" Hz (no --freq was given)\n");
@@ -124,146 +128,139 @@ fn describe_pitch(o: Options) {
 }
 
 // Says where a blend has fewer channels than gains were given.
-fn describe_gains(o: Options, channels: usize) {
-    if channels < o.gains {
+fn describe_gains(o: &Options, channels: usize) {
+    let given = o.gains.iter().filter(|g| g.is_some()).count();
+    if channels < given {
         say::text(1, b"the voice has ");
         say::counted(1, channels as u64, b" channel", b" channels");
         say::text(1, b": the gains beyond are not heard\n");
     }
 }
 
-// Says that an option is refused, before anything is written.
-fn refuse(option: &[u8], number: u32) {
-    say::text(2, option);
-    words::refusal(
-        2,
-        Answer {
-            number,
-            first: 0,
-            second: 0,
-        },
-    );
+// Says a refusal.
+fn refused(answer: Answer) -> Failed {
+    words::refusal(2, answer);
     say::text(2, b"\n");
+    Failed
 }
 
-// Whether the rate to retune to is one; if not, refusal 11 is said.
-fn retune_ok(o: Options) -> bool {
-    if o.retunes {
-        if !rate_ok(std::num::nearest_u32_to_f32(o.retune)) {
-            refuse(b"--retune: ", 11);
-            return false;
+// Says that an option is refused, before anything is written.
+fn refused_option(flag: Flag, number: u32) -> Failed {
+    say::text(2, flag.name());
+    say::text(2, b": ");
+    refused(Answer {
+        number,
+        first: 0,
+        second: 0,
+    })
+}
+
+// Whether the rate to retune to is one: refusal 11.
+fn check_retune(o: &Options) -> Result<(), Failed> {
+    match o.retune {
+        Some(retune) if !rate_ok(std::num::nearest_u32_to_f32(retune.rate)) => {
+            Err(refused_option(Flag::Retune, 11))
         }
+        _ => Ok(()),
     }
-    true
 }
 
-// Whether a pitch that was asked for can be played; if not, refusal 16 is said.
-fn pitch_ok(x: f32, option: &[u8]) -> bool {
+// Whether a pitch that was asked for can be played: refusal 16.
+fn check_pitch(flag: Flag, x: f32) -> Result<(), Failed> {
     if 20000.0 < x {
-        refuse(option, 16);
-        return false;
+        return Err(refused_option(flag, 16));
     }
-    true
+    Ok(())
 }
 
-fn pitches_ok(o: Options) -> bool {
-    if o.glides {
-        if !pitch_ok(o.to, b"--to: ") {
-            return false;
-        }
+fn check_pitches(o: &Options) -> Result<(), Failed> {
+    if let Some(to) = o.to {
+        check_pitch(Flag::To, to)?;
     }
-    pitch_ok(o.freq, b"--freq: ")
+    check_pitch(Flag::Freq, o.pitch())
+}
+
+fn make(o: &Options, image: &[u8], centres: &[f32]) -> Result<Voice, Failed> {
+    let (blend, channel) = o.kind_numbers();
+    let rate = std::num::nearest_u32_to_f32(o.rate);
+    let made = sounder_make(blend, channel, image, rate, centres);
+    let answer = made.answer;
+    if answer.number != 0 {
+        let desk = sounder_desk(blend, channel, image);
+        words::making_refusal(2, answer, desk.bands as u64, centres.len() as u64);
+        say::text(2, b"\n");
+        return Err(Failed);
+    }
+    Ok(made.voice)
 }
 
 // Plays a voice that was made.
-fn play_voice<R: Files<File = File> + Env + Print>(rt: &R, o: Options, voice: Voice) {
-    if o.seeded {
-        let again = sounder_reseed(voice, o.seed);
-        let seeded = again.voice;
-        output::write(rt, o, seeded);
-    } else {
-        output::write(rt, o, voice);
+fn play_voice<R: Files<File = File> + Env + Print>(
+    rt: &R,
+    o: &Options,
+    voice: Voice,
+) -> Result<(), Failed> {
+    match o.seed {
+        Some(seed) => {
+            let again = sounder_reseed(voice, seed);
+            output::write(rt, o, again.voice)
+        }
+        None => output::write(rt, o, voice),
     }
 }
 
 fn play_image<R: Files<File = File> + Env + Print>(
     rt: &R,
-    o: Options,
+    o: &Options,
     image: &[u8],
     centres: &[f32],
-    l: Loudness,
-) {
+    loudness: Option<Loudness>,
+) -> Result<(), Failed> {
     let read = sounder_from_bytes(image);
     if read.number != 0 {
-        words::refusal(2, read);
-        say::text(2, b"\n");
-        return;
+        return Err(refused(read));
     }
-    let made = sounder_make(
-        o.blend,
-        o.channel,
-        image,
-        std::num::nearest_u32_to_f32(o.rate),
-        centres,
-    );
-    let answer = made.answer;
-    if answer.number != 0 {
-        let desk = sounder_desk(o.blend, o.channel, image);
-        words::making_refusal(2, answer, desk.bands as u64, centres.len() as u64);
-        say::text(2, b"\n");
-        return;
-    }
-    if !retune_ok(o) {
-        return;
-    }
-    if !pitches_ok(o) {
-        return;
-    }
-    let voice = made.voice;
+    let voice = make(o, image, centres)?;
+    check_retune(o)?;
+    check_pitches(o)?;
     let set = voice.set;
     describe(image, read.first, set.m, set.j);
     describe_pitch(o);
     describe_gains(o, set.k);
-    if o.plan == 0 {
-        play_voice(rt, o, voice);
-    } else {
-        plan::describe(o.minute, l);
-        play_voice(rt, plan::with_gain(o, l), voice);
+    match loudness {
+        Some(l) => {
+            plan::describe(&l);
+            play_voice(rt, &plan::with_gain(o, &l), voice)
+        }
+        None => play_voice(rt, o, voice),
     }
 }
 
-fn run<R: Files<File = File> + Env + Print>(rt: &R, o: Options) {
+// Plays what was asked for. The buffer has a byte more than a table can, so a longer file is known without being read to its end.
+fn run<R: Files<File = File> + Env + Print>(rt: &R, o: &Options) -> Result<(), Failed> {
     let mut image = [0u8; 65537];
-    let r = file::read_argument(rt, o.table, &mut image);
-    if r.failed {
-        return;
-    }
-    let n = r.bytes;
-    let c = centres::from_argument(rt, o.centres);
-    if c.failed {
-        return;
-    }
-    let values = centres::values(c);
-    let k = c.count;
-    let l = plan::at_minute(rt, o.plan, o.minute);
-    if l.failed {
-        return;
-    }
-    play_image(rt, o, &image[..n], &values[..k], l);
+    let n = file::read_argument(rt, o.table, &mut image)?;
+    let centres = centres::from_argument(rt, o.centres)?;
+    let loudness = match o.quiet {
+        Some(q) => Some(plan::at_minute(rt, q)?),
+        None => None,
+    };
+    play_image(rt, o, &image[..n], centres.as_slice(), loudness)
 }
 
 fn main(rt: HostRuntime) {
-    let o = options::read(&rt);
-    if !options::is_right(o) {
+    let Ok(asked) = reading::read(&rt) else {
         say::wrong_use(b"tone");
         return;
-    }
-    if console::output::standard_output(&rt.stdout()) < 0 {
+    };
+    if console::output::standard_output(&rt.stdout()).is_err() {
         return;
     }
-    if o.help {
-        usage(&rt);
-        return;
+    match asked {
+        Asked::Help => usage(&rt),
+        Asked::Play(options) => {
+            // why it failed has been said, and the status is 0 in any case
+            let _ = run(&rt, &options);
+        }
     }
-    run(&rt, o);
 }

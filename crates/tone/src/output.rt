@@ -1,12 +1,12 @@
 // The file: made under a name of its own, filled block by block, and given its name at the end.
-ghost use Rattle.std.specs.Prelude.{◌<◌, ◌≤◌};
+ghost use Rattle.std.specs.Prelude.{◌+◌, ◌<◌, ◌≤◌};
 
-use crate::options::Options;
-use crate::playing::{Run, block, retuned};
+use crate::options::{Options, Retune};
+use crate::playing::{Fault, Run};
 use crate::sink::Sink;
-use crate::{sink, wav};
-use console::output::Program;
-use console::{crc, output, say, words};
+use crate::wav;
+use console::output::{Output, Program};
+use console::{Failed, crc, output, say, words};
 use sounder::Answer;
 use std::fs::File;
 use std::io::{Print, Write};
@@ -15,20 +15,21 @@ use voice::Voice;
 
 // How many samples a time has: whole ones, of up to 60 seconds at up to 192,000 a second, so that each number of a sample is an f32.
 // More, which no voice that was made can ask for, stands for none.
-fn samples(micros: u64, rate: u32) -> u32 {
+fn samples(micros: u64, rate: u32) -> u32
+    ensures { result ≤ 16777216 }
+{
     if 60000000 < micros {
         return 0;
     }
-    let n = micros * (rate as u64) / 1000000;
+    let n = micros * u64::from(rate) / 1000000;
     if 16777216 < n { 0 } else { n as u32 }
 }
 
 // How many samples are played before the retune: half of them, where no time was given.
-fn before_retune(o: Options, total: u32) -> u32 {
-    if o.at_given {
-        samples(o.at, o.rate)
-    } else {
-        total / 2
+fn before_retune(retune: Retune, rate: u32, total: u32) -> u32 {
+    match retune.at {
+        Some(at) => samples(at, rate),
+        None => total / 2,
     }
 }
 
@@ -36,153 +37,117 @@ fn before_retune(o: Options, total: u32) -> u32 {
 fn blocks(n: u32) -> u32
     ensures { result ≤ 33554432 }
 {
-    n / 128 + (n % 128 + 127) / 128
+    n.div_ceil(128)
 }
 
 // A line at each tenth of the blocks. A block that a retune cuts in two is done with its second part.
 fn progress(played: u32, total: u32) {
-    if played % 128 != 0 {
-        if played != total {
-            return;
-        }
+    if played % 128 != 0 && played != total {
+        return;
     }
     let done = blocks(played);
     let all = blocks(total);
-    if all == 0 {
-        return;
-    }
-    if done == 0 {
-        return;
-    }
-    if (done - 1) * 10 / all < done * 10 / all {
+    if all != 0 && done != 0 && (done - 1) * 10 / all < done * 10 / all {
         say::text(1, b"played ");
-        say::number(1, played as u64);
+        say::number(1, u64::from(played));
         say::text(1, b" of ");
-        say::counted(1, total as u64, b" sample\n", b" samples\n");
+        say::counted(1, u64::from(total), b" sample\n", b" samples\n");
     }
-}
-
-fn is_well(run: Run) -> bool {
-    let s = run.sink;
-    if sink::is_short(s) {
-        return false;
-    }
-    run.number == 0
 }
 
 // Where the block that starts at a sample ends: at the next multiple of 128, or at `to` where that comes first.
 fn block_end(from: u32, to: u32) -> u32
     requires { from < to }
-    ensures { (from < result) × (result ≤ to) }
+    ensures ahead { (from < result) × (result ≤ to) }
+    ensures near { result ≤ from + 128 }
 {
     let n = 128 - from % 128;
     if n < to - from { from + n } else { to }
 }
 
-// The samples from one up to another, in blocks, up to the first block that fails.
-fn fill<W: Write>(o: Options, file: &mut W, start: Run, from: u32, to: u32, total: u32) -> Run {
-    let mut run = start;
+// The samples from one up to another, in blocks. A `while`: where the first block starts between two multiples of 128 it is shorter, and
+// no range of a `for` goes in such steps.
+fn fill<W: Write>(
+    o: &Options,
+    file: &mut W,
+    run: &mut Run,
+    from: u32,
+    to: u32,
+    total: u32,
+) -> Result<(), Fault> {
     let mut played = from;
     while played < to {
         let end = block_end(played, to);
-        run = block(o, file, run, played, total, (end - played) as usize);
-        if !is_well(run) {
-            return run;
-        }
+        run.block(o, file, played, total, (end - played) as usize)?;
         played = end;
         progress(played, total);
     }
-    run
+    Ok(())
 }
 
 fn say_retuned(rate: u32, played: u32) {
     say::text(1, b"retuned to ");
-    say::number(1, rate as u64);
+    say::number(1, u64::from(rate));
     say::text(1, b" a second after ");
-    say::counted(1, played as u64, b" sample\n", b" samples\n");
+    say::counted(1, u64::from(played), b" sample\n", b" samples\n");
 }
 
 // All samples, with the retune between two of them where one is asked for.
-fn fill_all<W: Write>(o: Options, file: &mut W, start: Run, total: u32) -> Run {
-    if !o.retunes {
-        return fill(o, file, start, 0, total, total);
-    }
-    let n = before_retune(o, total);
-    let before = fill(o, file, start, 0, n, total);
-    if !is_well(before) {
-        return before;
-    }
-    let after = retuned(before, o.retune);
-    if !is_well(after) {
-        return after;
-    }
-    say_retuned(o.retune, n);
-    fill(o, file, after, n, total, total)
-}
-
-// The header of a file of `total` samples.
-fn header<W: Write>(file: &mut W, rate: u32, total: u32) -> Sink {
-    let s = sink::new();
-    if 0x1000_0000 < total {
-        return s;
-    }
-    if 0x1000_0000 < rate {
-        return s;
-    }
-    let s1 = sink::send(s, file, &wav::riff(50 + total * 4));
-    let s2 = sink::send(s1, file, &wav::format(rate, rate * 4));
-    let s3 = sink::send(s2, file, &wav::fact(total));
-    sink::send(s3, file, &wav::samples(total * 4))
+fn fill_all<W: Write>(o: &Options, file: &mut W, run: &mut Run, total: u32) -> Result<(), Fault> {
+    let Some(retune) = o.retune else {
+        return fill(o, file, run, 0, total, total);
+    };
+    let n = before_retune(retune, o.rate, total);
+    fill(o, file, run, 0, n, total)?;
+    run.retune(retune.rate)?;
+    say_retuned(retune.rate, n);
+    fill(o, file, run, n, total, total)
 }
 
 // The header, then the samples.
-fn fill_file<W: Write>(o: Options, file: &mut W, voice: Voice, total: u32) -> Run {
-    let sink = header(file, o.rate, total);
-    let start = Run {
+fn fill_file<W: Write>(o: &Options, file: &mut W, voice: Voice, total: u32) -> Result<Run, Fault>
+    requires { total ≤ 16777216 }
+{
+    let mut run = Run {
         voice,
-        sink,
+        sink: Sink::new(),
         peak: 0,
-        number: 0,
     };
-    fill_all(o, file, start, total)
+    run.sink.send(file, &wav::header(o.rate, total))?;
+    fill_all(o, file, &mut run, total)?;
+    Ok(run)
 }
 
-// Whether every sample was played and written. Where not, why has been said.
-fn is_whole(run: Run, part: &[u8]) -> bool {
-    let s = run.sink;
-    match s.failure {
-        Some(e) => {
+// Says why not every sample was played and written.
+fn say_fault(fault: Fault, part: &[u8]) {
+    match fault {
+        Fault::Failed(e) => {
             say::failed(part, e);
-            return false;
         }
-        None => {}
+        Fault::Refused(number) => {
+            words::refusal(
+                2,
+                Answer {
+                    number,
+                    first: 0,
+                    second: 0,
+                },
+            );
+            say::text(2, b"\n");
+        }
     }
-    if run.number != 0 {
-        words::refusal(
-            2,
-            Answer {
-                number: run.number,
-                first: 0,
-                second: 0,
-            },
-        );
-        say::text(2, b"\n");
-        return false;
-    }
-    true
 }
 
-fn report<R: Print>(rt: &R, path: &[u8], o: Options, run: Run, total: u32) {
-    let s = run.sink;
+fn report<R: Print>(rt: &R, path: &[u8], rate: u32, run: Run, total: u32) {
     say::text(1, b"wrote ");
     say::name(1, path);
     say::text(1, b": ");
-    say::counted(1, total as u64, b" sample at ", b" samples at ");
-    say::number(1, o.rate as u64);
+    say::counted(1, u64::from(total), b" sample at ", b" samples at ");
+    say::number(1, u64::from(rate));
     say::text(1, b" a second, peak ");
     say::float(1, run.peak);
     say::text(1, b", CRC-32 of the file ");
-    io::print_hex(1, crc::finish(s.crc) as u64, 8);
+    io::print_hex(1, u64::from(crc::finish(run.sink.crc)), 8);
     if 0x3f80_0000 < run.peak {
         say::text(
             1,
@@ -195,31 +160,37 @@ fn report<R: Print>(rt: &R, path: &[u8], o: Options, run: Run, total: u32) {
 // Plays into the part, which becomes the file once it is whole, and is removed where it is not.
 fn make_file<R: Files<File = File> + Print>(
     rt: &R,
-    o: Options,
+    o: &Options,
     voice: Voice,
-    path: &[u8],
-    part: &[u8],
-) {
-    match output::open(rt, Program::Tone, part) {
-        Some(mut file) => {
-            let total = samples(o.micros, o.rate);
-            let run = fill_file(o, &mut file, voice, total);
-            let whole = is_whole(run, part);
-            if output::keep(rt, Program::Tone, file, path, part, whole, false) {
-                report(rt, path, o, run, total);
-            }
-        }
-        None => {}
+    output: Output,
+) -> Result<(), Failed> {
+    let mut file = output.open(rt)?;
+    let total = samples(o.micros, o.rate);
+    let filled = fill_file(o, &mut file, voice, total);
+    if let Err(fault) = filled {
+        say_fault(fault, output.part);
     }
+    output.keep(rt, file, filled.is_ok())?;
+    if let Ok(run) = filled {
+        report(rt, output.path, o.rate, run, total);
+    }
+    Ok(())
 }
 
-pub fn write<R: Files<File = File> + Env + Print>(rt: &R, o: Options, voice: Voice) {
+pub fn write<R: Files<File = File> + Env + Print>(
+    rt: &R,
+    o: &Options,
+    voice: Voice,
+) -> Result<(), Failed> {
     let mut path = io::buffer();
-    let n = output::name(rt, Program::Tone, o.out, false, &mut path);
-    if n == 0 {
-        return;
-    }
+    let n = output::name(rt, Program::Tone, o.out, false, &mut path)?;
     let mut part = io::buffer();
-    let k = output::part(rt, o.out, &mut part);
-    make_file(rt, o, voice, &path[..n], &part[..k]);
+    let k = output::part(rt, o.out, &mut part).ok_or(Failed)?;
+    let output = Output {
+        by: Program::Tone,
+        path: &path[..n],
+        part: &part[..k],
+        replace: false,
+    };
+    make_file(rt, o, voice, output)
 }

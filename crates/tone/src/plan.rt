@@ -1,64 +1,34 @@
 // A plan of quiet windows: the gain that it gives the minute asked for.
-use crate::options::Options;
+use crate::options::{Options, Quiet};
 use crate::playing::bits;
-use console::plans::{Fault, Planned, Reason};
-use console::{file, plans, say, words};
+use console::plans::{BadLine, Planned};
+use console::{Failed, file, plans, say, words};
 use quiet::Window;
 use sounder::Answer;
 use sounder::plans::sounder_quiet_gain;
 use std::rt::{Env, Files};
 
-// What the plan gives: a gain, and the window that holds the minute with how many lines stand above its line; or that none holds it.
-// `failed` says that the plan was not read or is refused, and why has been said.
+// The window that holds a minute, and how many lines stand above its line.
 #[derive(Clone, Copy)]
-pub struct Loudness {
-    pub failed: bool,
-    pub gain: f32,
-    pub held: bool,
+pub struct Held {
     pub window: Window,
     pub above: usize,
 }
 
-// The gain where no window holds the minute, or where there is no plan.
-fn full() -> Loudness {
-    Loudness {
-        failed: false,
-        gain: 1.0,
-        held: false,
-        window: Window {
-            start: 0,
-            end: 0,
-            step: 0,
-        },
-        above: 0,
-    }
-}
-
-fn failure() -> Loudness {
-    let mut l = full();
-    l.failed = true;
-    l
+// What a plan gives a minute: a gain, and the window that holds the minute, if one does.
+#[derive(Clone, Copy)]
+pub struct Loudness {
+    pub minute: u32,
+    pub gain: f32,
+    pub held: Option<Held>,
 }
 
 // Says the plan's file and one of its lines, by how many stand above it.
 fn say_line<R: Env>(rt: &R, argument: usize, above: usize) {
     say::argument(rt, 2, argument);
     say::text(2, b": line ");
-    say::number(2, std::num::wrapping_add_usize(above, 1) as u64);
+    say::number(2, above.wrapping_add(1) as u64);
     say::text(2, b": ");
-}
-
-fn say_reason(r: Reason) {
-    match r {
-        Reason::TooFew => say::text(2, b"too few words: a window is START END STEP\n"),
-        Reason::TooMany => say::text(2, b"too many words: a window is START END STEP\n"),
-        Reason::NoEdge => say::text(
-            2,
-            b"START or END is neither a minute of the week, 0 to 10079, nor a day: Mon, Tue, Wed, Thu, Fri, Sat or Sun\n",
-        ),
-        Reason::NoClock => say::text(2, b"the word after a day is no clock from 00:00 to 23:59\n"),
-        Reason::NoStep => say::text(2, b"STEP is not a whole number from 0 to 100\n"),
-    }
 }
 
 fn say_refusal(a: Answer) {
@@ -68,79 +38,70 @@ fn say_refusal(a: Answer) {
 
 // How many lines stand above that of a window.
 fn above_of(p: Planned, i: usize) -> usize {
-    let above = p.above;
-    if i < 65 { above[i] } else { 0 }
+    p.above.get(i).copied().unwrap_or(0)
 }
 
 // Says what is refused: a window with its line, or the minute.
-fn refuse<R: Env>(rt: &R, argument: usize, p: Planned, a: Answer) -> Loudness {
+fn refuse<R: Env>(rt: &R, argument: usize, p: Planned, a: Answer) -> Failed {
     if a.number == 20 {
         say::text(2, b"--minute: ");
     } else {
         say_line(rt, argument, above_of(p, a.first));
     }
     say_refusal(a);
-    failure()
+    Failed
 }
 
-// The gain that the windows give.
-fn held(p: Planned, i: usize, gain: f32) -> Loudness {
-    let plan = p.plan;
-    let windows = plan.windows;
-    let mut l = full();
-    l.gain = gain;
-    if i < plan.count as usize {
-        if i < 64 {
-            l.held = true;
-            l.window = windows[i];
-            l.above = above_of(p, i);
-        }
+// The window that holds the minute, by its number; a number that is none of a window's says that none does.
+fn holding(p: Planned, i: usize) -> Option<Held> {
+    let windows = &p.plan.windows;
+    if p.plan.count as usize <= i {
+        return None;
     }
-    l
+    let window = windows.get(i).copied()?;
+    Some(Held {
+        window,
+        above: above_of(p, i),
+    })
 }
 
 // Asks the plan for the minute.
-fn ask<R: Env>(rt: &R, argument: usize, minute: u32, p: Planned) -> Loudness {
-    let plan = p.plan;
-    let q = sounder_quiet_gain(plan, minute);
-    let a = q.answer;
+fn ask<R: Env>(rt: &R, q: Quiet, p: Planned) -> Result<Loudness, Failed> {
+    let asked = sounder_quiet_gain(p.plan, q.minute);
+    let a = asked.answer;
     if a.number != 0 {
-        return refuse(rt, argument, p, a);
+        return Err(refuse(rt, q.plan, p, a));
     }
-    held(p, a.first, q.gain)
+    Ok(Loudness {
+        minute: q.minute,
+        gain: asked.gain,
+        held: holding(p, a.first),
+    })
 }
 
 // What a text of windows gives.
-fn from_text<R: Env>(rt: &R, argument: usize, minute: u32, text: &[u8]) -> Loudness {
-    let p = plans::read(text);
-    let fault = p.fault;
-    match fault {
-        Fault::NoFault => ask(rt, argument, minute, p),
-        Fault::BadLine(above, reason) => {
-            say_line(rt, argument, above);
-            say_reason(reason);
-            failure()
+fn from_text<R: Env>(rt: &R, q: Quiet, text: &[u8]) -> Result<Loudness, Failed> {
+    match plans::read(text) {
+        Ok(p) => ask(rt, q, p),
+        Err(BadLine { above, reason }) => {
+            say_line(rt, q.plan, above);
+            say::words(2, &reason);
+            say::text(2, b"\n");
+            Err(Failed)
         }
     }
 }
 
-// The gain of a minute by the plan in the file that an argument names; where there is no such argument, that of no plan.
-pub fn at_minute<R: Files + Env>(rt: &R, argument: usize, minute: u32) -> Loudness {
-    if argument == 0 {
-        return full();
-    }
+// The gain of a minute by a plan. The buffer has a byte more than a plan may, so a longer file is known without being read to its end.
+pub fn at_minute<R: Files + Env>(rt: &R, q: Quiet) -> Result<Loudness, Failed> {
     let mut text = [0u8; 65537];
-    let r = file::read_argument(rt, argument, &mut text);
-    if r.failed {
-        return failure();
-    }
-    let k = r.bytes;
+    let k = file::read_argument(rt, q.plan, &mut text)?;
     if k == 65537 {
-        say::argument(rt, 2, argument);
+        say::argument(rt, 2, q.plan);
         say::text(2, b": longer than 65536 bytes, and a plan is not\n");
-        return failure();
+        return Err(Failed);
     }
-    from_text(rt, argument, minute, &text[..k])
+    from_text(rt, q, &text[..k])
 }
 
 fn say_day(day: u32) {
@@ -171,38 +132,33 @@ fn say_minute(m: u32) {
 }
 
 // Says which window holds the minute, and the gain.
-pub fn describe(minute: u32, l: Loudness) {
+pub fn describe(l: &Loudness) {
     say::text(1, b"plan: ");
-    say_minute(minute);
-    if l.held {
-        let v = l.window;
-        say::text(1, b" is in line ");
-        say::number(1, std::num::wrapping_add_usize(l.above, 1) as u64);
-        say::text(1, b", ");
-        say_minute(v.start);
-        say::text(1, b" to ");
-        say_minute(v.end);
-    } else {
-        say::text(1, b" is in no window");
+    say_minute(l.minute);
+    match l.held {
+        Some(held) => {
+            say::text(1, b" is in line ");
+            say::number(1, held.above.wrapping_add(1) as u64);
+            say::text(1, b", ");
+            say_minute(held.window.start);
+            say::text(1, b" to ");
+            say_minute(held.window.end);
+        }
+        None => say::text(1, b" is in no window"),
     }
     say::text(1, b": gain ");
     say::float(1, bits(l.gain));
     say::text(1, b"\n");
 }
 
-// What is played with a plan: each gain that was given, times the plan's. Where none was, gain 0 is 1, so it is the plan's. The others are
-// 0 and stay so.
-pub fn with_gain(mut o: Options, l: Loudness) -> Options {
-    if o.gains == 0 {
-        o.gains = 1;
-        o.gain[0] = 1.0;
+// What is played with a plan: each gain that was given, times the plan's. Where none was, gain 0 is 1, so it is the plan's.
+pub fn with_gain(o: &Options, l: &Loudness) -> Options {
+    let mut softened = *o;
+    if softened.gains[0].is_none() {
+        softened.gains[0] = Some(1.0);
     }
-    let gain = o.gain;
-    o.gain = [
-        gain[0] * l.gain,
-        gain[1] * l.gain,
-        gain[2] * l.gain,
-        gain[3] * l.gain,
-    ];
-    o
+    for gain in &mut softened.gains {
+        *gain = gain.map(|g| g * l.gain);
+    }
+    softened
 }

@@ -1,165 +1,149 @@
 // Blocks of 128 samples, from the voice to the file.
-ghost use Rattle.std.specs.Prelude.{◌≡◌, length};
+ghost use Rattle.std.specs.Prelude.{◌≡◌, ◌≤◌, length};
 
 use crate::options::Options;
-use crate::sink::{Sink, send};
+use crate::sink::Sink;
 use sounder::voices::{sounder_play, sounder_retune};
-use std::io::Write;
-use table::desk::larger;
+use std::io::{Error, Write};
 use voice::{Shape, Voice};
 
-// How far the playing has come: the voice, the bytes sent, the largest magnitude as a pattern, and the number of a refusal (0: none).
+// Why no more is played: the file did not take it, or a call was refused by this number.
+#[derive(Clone, Copy)]
+pub enum Fault {
+    Failed(Error),
+    Refused(u32),
+}
+
+impl From<Error> for Fault {
+    fn from(e: Error) -> Fault {
+        Fault::Failed(e)
+    }
+}
+
+// How far the playing has come: the voice, what was sent, and the largest magnitude as a pattern.
 #[derive(Clone, Copy)]
 pub struct Run {
     pub voice: Voice,
     pub sink: Sink,
     pub peak: u32,
-    pub number: u32,
 }
 
 // The frequency of a sample: with a glide, the share of the way that the sample stands at.
-fn frequency(o: Options, sample: u32, total: u32) -> f32 {
-    if o.glides {
-        let t = std::num::nearest_u32_to_f32(sample) / std::num::nearest_u32_to_f32(total);
-        return float::lerp(o.freq, o.to, t);
+fn frequency(o: &Options, sample: u32, total: u32) -> f32 {
+    match o.to {
+        Some(to) => {
+            let t = std::num::nearest_u32_to_f32(sample) / std::num::nearest_u32_to_f32(total);
+            float::lerp(o.pitch(), to, t)
+        }
+        None => o.pitch(),
     }
-    o.freq
 }
 
-fn frequencies(o: Options, first: u32, total: u32) -> [f32; 128]
+fn frequencies(o: &Options, first: u32, total: u32) -> [f32; 128]
     ensures { 128 ≡ length result }
 {
-    let mut f = [0.0f32; 128];
-    let mut i: usize = 0;
+    let mut f = [0.0; 128];
     let mut sample = first;
-    while i < 128 {
-        f[i] = frequency(o, sample, total);
-        sample = std::num::wrapping_add_u32(sample, 1);
-        i += 1;
+    for x in &mut f {
+        *x = frequency(o, sample, total);
+        sample = sample.wrapping_add(1);
     }
     f
 }
 
 // The pattern of a float; one for every NaN.
 pub fn bits(x: f32) -> u32 {
-    if x != x {
-        return 0x7fc0_0000;
-    }
-    f32::to_bits(x)
+    if x.is_nan() { 0x7fc0_0000 } else { x.to_bits() }
 }
 
-fn peak_of(samples: &[f32; 128], n: usize, before: u32) -> u32 {
+fn peak_of(samples: &[f32], before: u32) -> u32 {
     let mut peak = before;
-    let mut i: usize = 0;
-    while i < n {
-        if i < 128 {
-            peak = larger(peak, bits(samples[i]) % 0x8000_0000);
-        }
-        i += 1;
+    for x in samples {
+        peak = peak.max(bits(*x) % 0x8000_0000);
     }
     peak
-}
-
-// A byte of a number, the lowest first.
-fn octet(n: u32, i: usize) -> u8 {
-    match i {
-        0 => (n % 256) as u8,
-        1 => (n / 256 % 256) as u8,
-        2 => (n / 65536 % 256) as u8,
-        _ => (n / 16777216) as u8,
-    }
 }
 
 fn bytes_of(samples: &[f32; 128]) -> [u8; 512]
     ensures { 512 ≡ length result }
 {
-    let mut bytes = [0u8; 512];
-    let mut i: usize = 0;
-    while i < 512 {
-        bytes[i] = octet(bits(samples[i / 4]), i % 4);
-        i += 1;
+    let mut bytes = [0; 512];
+    for (i, x) in samples.iter().enumerate() {
+        bytes[i * 4..i * 4 + 4].copy_from_slice(&bits(*x).to_le_bytes());
     }
     bytes
 }
 
-// One value for each sample of a block.
-fn steady(x: f32) -> [f32; 128]
+// One value for each sample of a block; 0 where an input is unconnected.
+fn steady(x: Option<f32>) -> [f32; 128]
     ensures { 128 ≡ length result }
 {
-    [x; 128]
+    [x.unwrap_or(0.0); 128]
 }
 
-// 1 where the gain was given, and 0, unconnected, where not.
-fn connected(o: Options, gain: usize) -> usize {
-    if gain < o.gains { 1 } else { 0 }
+// How many channels an input has: 0 where nothing was given, and it is unconnected.
+fn connected(given: bool) -> usize {
+    if given { 1 } else { 0 }
 }
 
-// A block of one channel; where no pitch or gain was given, the input is unconnected.
-fn shape(o: Options, samples: usize) -> Shape {
+// A block of one channel.
+fn shape(o: &Options, samples: usize) -> Shape {
     Shape {
         samples,
         channels: 1,
-        freq: o.freq_given,
-        g0: connected(o, 0),
-        g1: connected(o, 1),
-        g2: connected(o, 2),
-        g3: connected(o, 3),
+        freq: connected(o.freq.is_some() || o.to.is_some()),
+        g0: connected(o.gains[0].is_some()),
+        g1: connected(o.gains[1].is_some()),
+        g2: connected(o.gains[2].is_some()),
+        g3: connected(o.gains[3].is_some()),
     }
 }
 
-// Plays the n samples from `first` on, and writes them. n is at most 128.
-pub fn block<W: Write>(
-    o: Options,
-    file: &mut W,
-    run: Run,
-    first: u32,
-    total: u32,
-    n: usize,
-) -> Run {
-    if 128 < n {
-        return run;
+impl Run {
+    // Plays the n samples from `first` on, and writes them.
+    pub fn block<W: Write>(
+        &mut self,
+        o: &Options,
+        file: &mut W,
+        first: u32,
+        total: u32,
+        n: usize,
+    ) -> Result<(), Fault>
+        requires { n ≤ 128 }
+    {
+        let f = frequencies(o, first, total);
+        let g0 = steady(o.gains[0]);
+        let g1 = steady(o.gains[1]);
+        let g2 = steady(o.gains[2]);
+        let g3 = steady(o.gains[3]);
+        let mut out = [0.0; 128];
+        let p = sounder_play(
+            self.voice,
+            shape(o, n),
+            &f[..n],
+            &g0[..n],
+            &g1[..n],
+            &g2[..n],
+            &g3[..n],
+            &mut out[..n],
+        );
+        if p.number != 0 {
+            return Err(Fault::Refused(p.number));
+        }
+        self.voice = p.voice;
+        self.peak = peak_of(&out[..n], self.peak);
+        let bytes = bytes_of(&out);
+        self.sink.send(file, &bytes[..n * 4])?;
+        Ok(())
     }
-    let f = frequencies(o, first, total);
-    let gain = o.gain;
-    let g0 = steady(gain[0]);
-    let g1 = steady(gain[1]);
-    let g2 = steady(gain[2]);
-    let g3 = steady(gain[3]);
-    let mut out = steady(0.0);
-    let voice = run.voice;
-    let p = sounder_play(
-        voice,
-        shape(o, n),
-        &f[..n],
-        &g0[..n],
-        &g1[..n],
-        &g2[..n],
-        &g3[..n],
-        &mut out[..n],
-    );
-    let after = p.voice;
-    let bytes = bytes_of(&out);
-    let k = n * 4;
-    let before = run.sink;
-    let sink = send(before, file, &bytes[..k]);
-    Run {
-        voice: after,
-        sink,
-        peak: peak_of(&out, n, run.peak),
-        number: p.number,
-    }
-}
 
-// The voice at another rate. The tone goes on: its phases and memories are kept.
-pub fn retuned(run: Run, rate: u32) -> Run {
-    let voice = run.voice;
-    let p = sounder_retune(voice, std::num::nearest_u32_to_f32(rate));
-    let after = p.voice;
-    let sink = run.sink;
-    Run {
-        voice: after,
-        sink,
-        peak: run.peak,
-        number: p.number,
+    // Takes the voice to another rate. The tone goes on: its phases and memories are kept.
+    pub fn retune(&mut self, rate: u32) -> Result<(), Fault> {
+        let p = sounder_retune(self.voice, std::num::nearest_u32_to_f32(rate));
+        if p.number != 0 {
+            return Err(Fault::Refused(p.number));
+        }
+        self.voice = p.voice;
+        Ok(())
     }
 }

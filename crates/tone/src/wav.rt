@@ -1,84 +1,27 @@
 // A WAV file of one channel of 32-bit floats (format 3), in little-endian chunks: RIFF, fmt, fact and data. 58 bytes stand before the
 // samples.
+ghost use Rattle.std.specs.Prelude.{◌≤◌};
 
-// The mark RIFF with the bytes that follow, WAVE, and the head of the chunk fmt, of 18 bytes.
-pub fn riff(n: u32) -> [u8; 20] {
-    [
-        82,
-        73,
-        70,
-        70,
-        (n % 256) as u8,
-        (n / 256 % 256) as u8,
-        (n / 65536 % 256) as u8,
-        (n / 16777216) as u8,
-        87,
-        65,
-        86,
-        69,
-        102,
-        109,
-        116,
-        32,
-        18,
-        0,
-        0,
-        0,
-    ]
+// Of RIFF the mark, the bytes that follow, and WAVE; fmt, of 18 bytes: floats, one channel, the rate, the bytes a second, 4 bytes of 32
+// bits a sample, nothing more; fact, with the number of samples; the head of data. The numbers that differ are still 0.
+const HEADER: [u8; 58] =
+    *b"RIFF\0\0\0\0WAVEfmt \x12\0\0\0\x03\0\x01\0\0\0\0\0\0\0\0\0\x04\0\x20\0\0\0fact\x04\0\0\0\0\0\0\0data\0\0\0\0";
+
+fn put(header: &mut [u8; 58], at: usize, n: u32)
+    requires { at ≤ 54 }
+{
+    header[at..at + 4].copy_from_slice(&n.to_le_bytes());
 }
 
-// The chunk fmt: floats, one channel, the rate, n bytes a second, 4 bytes of 32 bits a sample, nothing more.
-pub fn format(rate: u32, n: u32) -> [u8; 18] {
-    [
-        3,
-        0,
-        1,
-        0,
-        (rate % 256) as u8,
-        (rate / 256 % 256) as u8,
-        (rate / 65536 % 256) as u8,
-        (rate / 16777216) as u8,
-        (n % 256) as u8,
-        (n / 256 % 256) as u8,
-        (n / 65536 % 256) as u8,
-        (n / 16777216) as u8,
-        4,
-        0,
-        32,
-        0,
-        0,
-        0,
-    ]
-}
-
-// The chunk fact, with the number of samples.
-pub fn fact(n: u32) -> [u8; 12] {
-    [
-        102,
-        97,
-        99,
-        116,
-        4,
-        0,
-        0,
-        0,
-        (n % 256) as u8,
-        (n / 256 % 256) as u8,
-        (n / 65536 % 256) as u8,
-        (n / 16777216) as u8,
-    ]
-}
-
-// The head of the chunk data, of n bytes.
-pub fn samples(n: u32) -> [u8; 8] {
-    [
-        100,
-        97,
-        116,
-        97,
-        (n % 256) as u8,
-        (n / 256 % 256) as u8,
-        (n / 65536 % 256) as u8,
-        (n / 16777216) as u8,
-    ]
+// What stands before so many samples. A rate that a voice was made at is far below those whose bytes a second are past 2^32.
+pub fn header(rate: u32, samples: u32) -> [u8; 58]
+    requires { samples ≤ 16777216 }
+{
+    let mut header = HEADER;
+    put(&mut header, 4, 50 + samples * 4);
+    put(&mut header, 24, rate);
+    put(&mut header, 28, rate.saturating_mul(4));
+    put(&mut header, 46, samples);
+    put(&mut header, 54, samples * 4);
+    header
 }
