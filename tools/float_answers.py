@@ -160,7 +160,7 @@ def pairs():
 def finite_cases():
     rnd = Random(3)
     asked = LIMITS + [rnd.next() for _ in range(40)]
-    return [(n, int(n & 0x7FFFFFFF < INF)) for n in asked]
+    return [(n, n & 0x7FFFFFFF < INF) for n in asked]
 
 
 def literals():
@@ -187,24 +187,22 @@ def write_array(f, text, name, kind, items):
 
 
 def write_cases(f, text, name, cases):
-    write_array(f, text, name, 'u64', ['0x%08x_%08x' % case for case in cases])
+    write_array(f, text, name, '(u32, u32)', ['(0x%08x, 0x%08x)' % case for case in cases])
 
 
 def files():
     sqrt, finite, both, exact = sqrt_cases(), finite_cases(), pairs(), literals()
     special = [(n, n) for n in (INF, INF | SIGN)] + [(n, NAN) for n in NANS + [INF + 1 + k * 0x12345 % 0x7FFFFF for k in range(10)]]
-    assert len(both) == 200 and len(exact) == 90  # the lengths in main.rt
     with io.StringIO() as f:
         f.write('// Made by tools/float_answers.py, which works each answer out by whole numbers.\n')
-        f.write('// A case is a pattern, in the upper 32 bits, and the answer, in the lower. 7fc00000 stands for every NaN.\n')
+        f.write('// A case begins with a pattern, or with two, and ends with what is answered. 7fc00000 stands for every NaN.\n')
         write_cases(f, 'Square roots.', 'SQRT', sqrt)
-        write_cases(f, 'Whether the pattern is finite: 1 or 0.', 'IS_FINITE', finite)
+        write_array(f, 'Whether the pattern is finite.', 'IS_FINITE', '(u32, bool)', ['(0x%08x, %s)' % (n, 'true' if is_finite else 'false') for n, is_finite in finite])
         write_cases(f, 'The patterns of the infinities, and some of NaNs.', 'SPECIAL', special)
-        write_cases(f, 'Two operands, and below the smaller and the larger of each two.', 'PAIRS', both)
-        write_array(f, 'The smaller.', 'MIN', 'u32', ['0x%08x' % smaller(a, b) for a, b in both])
-        write_array(f, 'The larger.', 'MAX', 'u32', ['0x%08x' % larger(a, b) for a, b in both])
-        write_array(f, 'Finite patterns, and below their values to 9 digits, which name one float each.', 'FINITE', 'u32', ['0x%08x' % n for n, _ in exact])
-        write_array(f, 'Their values.', 'VALUES', 'f32', [text for _, text in exact])
+        pair = ['(0x%08x, 0x%08x, 0x%08x, 0x%08x)' % (a, b, smaller(a, b), larger(a, b)) for a, b in both]
+        write_array(f, 'Two operands, the smaller and the larger of the two.', 'PAIRS', '(u32, u32, u32, u32)', pair)
+        values = ['(0x%08x, %s)' % case for case in exact]
+        write_array(f, 'Finite patterns, and their values to 9 digits, which name one float each.', 'VALUES', '(u32, f32)', values)
         cases_text = f.getvalue()
     runs = (('sqrt', sqrt), ('sqrt_each', sqrt), ('min', both), ('max', both), ('is_finite', finite), ('from_bits special', special), ('from_bits', exact))
     stdout = ''.join('%s %d ok\n' % (name, len(cases)) for name, cases in runs)

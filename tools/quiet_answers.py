@@ -188,26 +188,33 @@ def array(text, name, kind, rows):
     return f'\n{text}pub const {name}: [{kind}; {len(rows)}] = [\n{made.rows(rows)}];\n'
 
 
+def laid(left, items, right, indent):
+    """A tuple or an array, as `rt fmt` lays it out: in a line where its elements take 60 columns at most, else one to a line."""
+    line = ', '.join(items)
+    if len(line) <= 60:
+        return left + line + right
+    return left + '\n' + ''.join(f'{indent}    {item},\n' for item in items) + indent + right
+
+
 def files():
     (found, listed), cases = plans(), asked()
-    table, numbers, out = [], [], []
+    table, limits, out = [], [], []
     for number, (words, at, count) in enumerate(found):
-        table.append((f'{at}_{count:03d}_{number % len(BEYOND)}', f'plan {number}: {words}'))
+        table.append((f'({at}, {count}, {number % len(BEYOND)})', f'plan {number}: {words}'))
         out += shown_plan(number, listed[at:at + count])
     for case in cases:
-        count, minute, (one, first), (other, second) = case
+        count, minute, *named = case
         asks, answer = shown_case(case)
-        numbers += [(f'{count}', asks), *(f'{n}' for n in (minute, one, *first, other, *second))]
+        pair = laid('[', [f'{at}' for at in named], ']', ' ' * 8)
+        limits.append((laid('(', [f'{count}', f'{minute}', pair], ')', ' ' * 4), asks))
         out.append(f'{asks}: {answer}')
     text = '// Made by tools/quiet_answers.py, which paints the week to know each answer.\n'
-    text += array('''// Plans: where the windows start in WINDOWS, how many they are, in three digits, and which window of WINDOWS fills the
-// places beyond them.
-''', 'PLANS', 'u64', table)
-    windows = [f'{start}_{end:05d}_{step:03d}' for start, end, step in listed]
-    text += array('// Windows: start, end in five digits, step in three.\n', 'WINDOWS', 'u64', windows)
-    text += array('''// Plans at the limits, ten numbers each: how many windows, the minute, and two windows, each as its place, start, end
-// and step. In every other place stands 540 to 1020 step 50.
-''', 'ASKED', 'u32', numbers)
+    text += array('// Plans: where the windows start in WINDOWS, how many they are, and which window of WINDOWS fills the places beyond them.\n',
+                  'PLANS', '(usize, u32, usize)', table)
+    text += array('// Windows: start, end and step.\n', 'WINDOWS', '(u32, u32, u32)', [f'{window}' for window in listed])
+    text += array('''// Plans at the limits: how many windows, the minute, and two windows at their places. In every other place stands 540 to 1020
+// step 50.
+''', 'ASKED', '(u32, u32, [(usize, (u32, u32, u32)); 2])', limits)
     return {'crates/quiet_check/src/cases.rt': text.encode(), 'crates/quiet_check/stdout': ('\n'.join(out) + '\n').encode()}
 
 
