@@ -1,4 +1,4 @@
-// Whether a float is the root of another, without branches: the machine tests several at a time.
+// Whether a float is the root of another, by whole numbers and few tests, so that a machine can test several at a time.
 ghost use Rattle.std.specs.Prelude.{◌≡◌, cond, ◌<◌, ◌≤◌};
 ghost use Rattle.std.specs.Float.{binary32};
 ghost use Rattle.std.specs.Float.Ieee.{to_bits, lt};

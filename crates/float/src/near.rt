@@ -27,7 +27,7 @@ pub(crate) fn near(x: f32, b: u32) -> u64
     (p / 0x1000_0000 % 0x100_0000 + 1) / 2 % 0x80_0000 + 0x80_0000
 }
 
-// A float near the root of x, without `f64`: four of these are worked out at a time. b is the pattern of x.
+// A float near the root of x, without `f64`, so that a machine can work out several at a time. b is the pattern of x.
 // The last step wants x - s * s to more digits than an `f32` has: s is split into two halves of 12 digits, whose products are exact.
 pub(crate) fn near_f32(x: f32, b: u32) -> f32
     requires { b < 2139095040 }

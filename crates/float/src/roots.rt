@@ -19,7 +19,7 @@ fn guess(x: f32) -> f32
     x
 }
 
-// Into each place of roots what f gives of the x at that place.
+// Into each place of roots what f gives of the x at that place. (By index, since a proof sees no writes through a zipped `iter_mut`.)
 fn fill_each<F: Fn(f32) -> f32>(roots: &mut [f32], xs: &[f32], f: F)
     requires callable { F.IsAlwaysCallable f }
     requires as_long { length roots.old ≡ length xs.now }

@@ -9,7 +9,7 @@ use crate::limits::MAX_BANDS;
 use crate::lists::{BANDS_AT, CENTRES, COMPENSATIONS, LISTS_PLACES, list_of, put_list};
 use filters::{BiquadCoeffs, init_band, zero_coeffs};
 
-// What each band has one of.
+// What each band has one of: two columns, since each is put among the lists in one go.
 #[derive(Clone, Copy)]
 pub struct Bands {
     pub coeffs: [BiquadCoeffs; 16],
