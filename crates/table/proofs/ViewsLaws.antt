@@ -3,12 +3,12 @@ use Prim.Native.Nat.{ℕ, zero, suc, ◌+◌, ◌-◌, ◌≤◌, ◌<◌}
 use mathlib.Core.Path.{◌≡◌, refl, ap, sym, ◌∙◌}
 use mathlib.Core.List.{List, [], ◌∷◌, ◌++◌, append-nil, append_assoc}
 use native.Mathlib.Omega.{arith}
-use lib.ListN.{length, take, set, replicate, length-map, length-append}
+use lib.ListN.{length, take, set, replicate, length-append}
 use lib.Dec.{leb}
-use lib.Seq.{length-take-le, set-append_seam, set_out}
+use lib.Seq.{set-append_seam, set_out}
 use Rattle.wire.specs.Parse.{refusal, ok, asked, then, many, standing}
 use Rattle.wire.proofs.Many.{went, asked-ok, many-length, stand-go, stand-end}
-use Rattle.std.specs.Prelude.{Result, Ok, Err, IfOk}
+use Rattle.std.specs.Prelude.{map, Result, Ok, Err, IfOk}
 use Rattle.table.specs.declared.entry.EntryView.{EntryView}
 use Rattle.table.specs.declared.error.CoeffTableCodecError.{CoeffTableCodecError}
 use Rattle.table.specs.declared.views.Views.{Views}
@@ -20,14 +20,10 @@ use Rattle.table.specs.Decode.{decode}
 use Rattle.table.specs.View.{entry_at, view_of}
 use Rattle.table.specs.inner.Entry.{entry_list}
 use Rattle.table.specs.Views.{no_view, views_from, views_of, views_parsed}
-use Rattle.table.specs.inner.KeptViews.{viewed}
 use Rattle.table.specs.Answer.{counts}
 use Rattle.table.proofs.SizeLaws.{entry-is, entry-end}
 use Rattle.table.proofs.HeaderLaws.{header-end}
 use Rattle.table.proofs.ReadLaws.{read_table}
-
-pub viewed-length : (s : List ℕ) (views : List EntryView) (n : ℕ) → n ≤ length views → length (viewed s views n) ≡ n
-viewed-length s views n h = length-map (take n views) (entry_at s) ∙ length-take-le n views h
 
 -- ---- the loop: entries put into a list of views one after the other, from place i on; past the list's end none is kept
 unfoldable pub put_views : List EntryView → ℕ → ℕ → List PitchEntry → List EntryView
@@ -82,7 +78,7 @@ kept-all s d at (Ok v) g h k = k ∙ kept-are s d at _ _ g (sym h)
 kept-all s d at (Err e) g h k = tt
 
 -- LAW: the views of an accepted image of at most 16 entries lead to its entries
-lead-back : (s : List ℕ) (n i k at e : ℕ) (es : List PitchEntry) → n ≤ k → many entry i n s at ≡ ok es e → viewed s (views_from k at es) n ≡ es
+lead-back : (s : List ℕ) (n i k at e : ℕ) (es : List PitchEntry) → n ≤ k → many entry i n s at ≡ ok es e → map (entry_at s) (take n (views_from k at es)) ≡ es
 unfolding many views_from
 lead-back s zero i k at e es h g = let q : es ≡ [] = cc in rw q refl
 lead-back s (suc n) i zero at e es h g = absurd (omega arith)
@@ -106,6 +102,6 @@ table-entries s t e g f =
     let p : m₂ ≡ 14 + length d.name = header-end s m₂ d (rw a.1 g₂) in
     f m₃ (rw (r, ← p, many-length entry s d.count 0 m₂ m₃ es g₃) g₃)
 
-pub views-lead : (s : List ℕ) (t : CoeffTable) (e n : ℕ) → decode s ≡ ok t e → length t.entries ≡ n → n ≤ 16 → viewed s (views_of (decode s)) n ≡ t.entries
+pub views-lead : (s : List ℕ) (t : CoeffTable) (e n : ℕ) → decode s ≡ ok t e → length t.entries ≡ n → n ≤ 16 → map (entry_at s) (take n (views_of (decode s))) ≡ t.entries
 views-lead s t e n g l h = table-entries s t e g λ x w.
     rw (g, ← l) (lead-back s (length t.entries) 0 16 (14 + length t.name) x t.entries (omega arith) w)

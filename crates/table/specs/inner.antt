@@ -3,4 +3,3 @@ pub mod Answers
 pub mod Baseline
 pub mod Entry
 pub mod Header
-pub mod KeptViews

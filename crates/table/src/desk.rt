@@ -1,5 +1,5 @@
 // What the desk is told of an image: a voice's band count and the noise-band span, to work out the band centres from.
-ghost use Rattle.std.specs.Prelude.{◌≡◌, ℕ, max, List};
+ghost use Rattle.std.specs.Prelude.{◌≡◌, ℕ, List};
 ghost use Rattle.table.specs.Decode.{decode};
 ghost use Rattle.table.specs.View.{entry_at};
 ghost use Rattle.table.specs.inner.Entry.{entry_list};
@@ -25,12 +25,6 @@ pub struct Desk {
     pub bands: u32,
     pub min_hz: u32,
     pub max_hz: u32,
-}
-
-pub fn larger(a: u32, b: u32) -> u32
-    ensures { result ≡ max a b }
-{
-    a.max(b)
 }
 
 // The bands that an entry gives a voice.
