@@ -1,10 +1,10 @@
 -- What an answer of the wire's definitions says of the bytes: laws for callers. Assumes nothing.
-use Prim.Native.Nat.{ℕ, ◌+◌, ◌-◌, ◌≤◌, ◌<◌}
-use mathlib.Core.Path.{◌≡◌, refl, sym, ◌∙◌}
+use Prim.Native.Nat.{ℕ, ◌+◌, ◌≤◌, ◌<◌}
+use mathlib.Core.Path.{◌≡◌, refl}
 use mathlib.Core.List.{List}
 use mathlib.Core.Bool.{Bool, true, false, cond}
 use native.Mathlib.Omega.{arith}
-use lib.ListN.{length, take, drop}
+use lib.ListN.{length}
 use lib.Dec.{leb}
 use borrow.Author.Tests.{le-leb, lt-leb, leb-true, leb-false}
 use Rattle.wire.specs.Parse.{Refusal, Parsed, ok, refused, then}
@@ -123,57 +123,3 @@ string-is s at next p h = go (u32 s at) refl h
     go : (w : Parsed ℕ) → u32 s at ≡ w → then w (λ n m. string_of n s m) ≡ ok p next → IsString s at next p
     go (ok k d) g h = took k d g (leb (d + k) (length s)) (utf8 (part s d k)) refl refl h
     go (refused r) g h = let z : ◌≡◌ {A = ℕ} 0 1 = cc in absurd (omega arith)
-
--- a number is the part of its size, read
-field-refused : {A B : Type 0} (b : Bool) (v : A) (w : B) (n m : ℕ) (q r : Refusal) → cond b (ok v n) (refused q) ≡ refused r → cond b (ok w m) (refused q) ≡ refused r
-field-refused true v w n m q r h = let z : ◌≡◌ {A = ℕ} 0 1 = cc in absurd (omega arith)
-field-refused false v w n m q r h = cc
-
-pub u16-taken : (s : List ℕ) (at a next : ℕ) → take_at 2 s at ≡ ok a next → u16 s at ≡ ok (le16 s a) next
-unfolding u16
-u16-taken s at a next h =
-    let i = take-is s at 2 a next h in
-    rw (i.start, i.end) (simp (le-leb (at + 2) (length s) i.there))
-
-pub u16-refused : (s : List ℕ) (at : ℕ) (r : Refusal) → take_at 2 s at ≡ refused r → u16 s at ≡ refused r
-unfolding take_at u16
-u16-refused s at r h = field-refused (leb (at + 2) (length s)) at (le16 s at) (at + 2) (at + 2) unexpected_eof r h
-
-pub u32-taken : (s : List ℕ) (at a next : ℕ) → take_at 4 s at ≡ ok a next → u32 s at ≡ ok (le32 s a) next
-unfolding u32
-u32-taken s at a next h =
-    let i = take-is s at 4 a next h in
-    rw (i.start, i.end) (simp (le-leb (at + 4) (length s) i.there))
-
-pub u32-refused : (s : List ℕ) (at : ℕ) (r : Refusal) → take_at 4 s at ≡ refused r → u32 s at ≡ refused r
-unfolding take_at u32
-u32-refused s at r h = field-refused (leb (at + 4) (length s)) at (le32 s at) (at + 4) (at + 4) unexpected_eof r h
-
--- a string is its bytes' part, by what the test of them found
-module _ (s : List ℕ) (at n a next : ℕ) (e : take_at n s at ≡ ok a next) (r : Bool) (v : r ≡ utf8 (take (next - a) (drop a s))) where
-  tested : r ≡ utf8 (part s at n)
-  tested =
-      let i = take-is s at n a next e in
-      let w : next - a ≡ n = omega arith in
-      v ∙ rw (w, i.start) refl
-
-  pub string-good : r ≡ true → string_of n s at ≡ ok (place a n) next
-  unfolding string_of
-  string-good g =
-      let i = take-is s at n a next e in
-      rw (i.start, i.end) (simp (le-leb (at + n) (length s) i.there, sym tested ∙ g))
-
-  pub string-bad : r ≡ false → string_of n s at ≡ refused bad_utf8
-  unfolding string_of
-  string-bad g =
-      let i = take-is s at n a next e in
-      simp (le-leb (at + n) (length s) i.there, sym tested ∙ g)
-
-pub string-refused : (s : List ℕ) (at n : ℕ) (r : Refusal) → take_at n s at ≡ refused r → string_of n s at ≡ refused r
-unfolding take_at string_of
-string-refused s at n r h = go (leb (at + n) (length s)) h
-  where
-    go : (b : Bool) → cond b (ok at (at + n)) (refused unexpected_eof) ≡ refused r
-        → cond b (cond (utf8 (part s at n)) (ok (place at n) (at + n)) (refused bad_utf8)) (refused unexpected_eof) ≡ refused r
-    go true p = let z : ◌≡◌ {A = ℕ} 0 1 = cc in absurd (omega arith)
-    go false p = cc

@@ -1,25 +1,13 @@
 -- Laws of the wire's definitions that several proofs cite. Assumes nothing.
-use Prim.Native.Nat.{ℕ, zero, suc, ◌+◌, ◌-◌, ◌≤◌, ◌<◌}
+use Prim.Native.Nat.{ℕ, zero, suc, ◌+◌, ◌≤◌, ◌<◌}
 use mathlib.Core.Path.{◌≡◌, refl, ap, ◌∙◌}
 use mathlib.Core.List.{List, []}
-use mathlib.Core.Bool.{true, false}
 use native.Mathlib.Omega.{arith}
 use native.Mathlib.Numerals.{add-one}
 use lib.ListN.{length, get_or, drop}
 use lib.Seq.{drop-cons}
-use lib.Dec.{leb}
-use borrow.Author.Tests.{le-leb, lt-leb}
+use borrow.Author.Tests.{le-leb}
 use Rattle.wire.specs.Utf8.{Octets, Next, follow, lead, octet, onto, octets}
-
--- whether n bytes are there, by the tests that the code makes
-pub room : (at n l : ℕ) → at ≤ l → n ≤ l - at → leb (at + n) l ≡ true
-room at n l p q = le-leb (at + n) l (omega arith)
-
-pub past : (at n l : ℕ) → l < at → leb (at + n) l ≡ false
-past at n l p = lt-leb (at + n) l (omega arith)
-
-pub lacking : (at n l : ℕ) → at ≤ l → l - at < n → leb (at + n) l ≡ false
-lacking at n l p q = lt-leb (at + n) l (omega arith)
 
 -- LAW: the bytes from i on, by what the byte at i does
 pub octets-step : (rest : List Octets) (s : List ℕ) (i : ℕ) → i < length s → octets (drop i s) rest ≡ onto (octet rest (get_or s i 0)) (λ next. octets (drop (i + 1) s) next)

@@ -71,7 +71,7 @@ wire_refusal WireError.UnexpectedEof = unexpected_eof
 wire_refusal WireError.BadUtf8 = bad_utf8
 
 -- a part or a number
-abbrev pub read_parsed : Result (Read ℕ) WireError → Parsed ℕ
+abbrev pub read_parsed : {A : Type 0} → Result (Read A) WireError → Parsed A
 read_parsed (Ok r) = ok r.value r.next.at
 read_parsed (Err e) = refused (wire_refusal e)
 

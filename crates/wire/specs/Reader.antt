@@ -15,10 +15,13 @@ abbrev pub answer_at : {A : Type 0} → Result A WireError → ℕ → Parsed A
 answer_at (Ok a) at = ok a at
 answer_at (Err e) at = refused (wire_refusal e)
 
+-- what was read at the reader's position is its answer, and the reader is now at the position after it
+abbrev pub Passed : {A : Type 0} → Parsed A → Result A WireError → Reader → Reader → Type 0
+Passed p answer before next = (answer_at answer next.pos ≡ p) × (next ≡ moved_to before (next_position p before.pos))
+
 -- a field was asked of the reader: the answer is that at its position, and the reader is now at the position after it
 abbrev pub Reads : {A : Type 0} → Parser A → Result A WireError → Reader → Reader → Type 0
-Reads p answer before next = (answer_at answer next.pos ≡ p before.buf.now before.pos) × (next ≡ moved_to before (next_position (p before.buf.now
-    before.pos) before.pos))
+Reads p answer before next = Passed (p before.buf.now before.pos) answer before next
 
 -- a string was asked of it: the answer, and the reader is now at the position that the reading came to
 abbrev pub ReadsString : Result Place WireError → Reader → Reader → Type 0

@@ -24,6 +24,19 @@ pub struct Read<T> {
     pub next: Cursor,
 }
 
+impl<T> Read<T> {
+    // What is made of the value, with the same cursor past it.
+    fn map<U, F: FnOnce(T) -> U>(self, f: F) -> Read<U>
+        requires { F.pre f self.value }
+        ensures { (F.post f self.value result.value) × (result.next ≡ self.next) }
+    {
+        Read {
+            value: f(self.value),
+            next: self.next,
+        }
+    }
+}
+
 // Where a string's bytes stand in the image.
 #[derive(Clone, Copy)]
 pub struct Place {
@@ -54,6 +67,7 @@ fn le32_at(s: &[u8], at: usize) -> u32
 
 impl Cursor {
     // The n bytes at the cursor: where they start. The test is a difference, so that no sum wraps.
+    #[tactic(auto, using(std::proofs::lemmas::Bool::Decides::nat_tests), unfolding(crate::specs::Cursor::take_at))]
     pub fn take(self, s: &[u8], n: usize) -> Result<Read<usize>, WireError>
         ensures { read_parsed result ≡ take_at n s.now self.at }
     {
@@ -67,52 +81,46 @@ impl Cursor {
         })
     }
 
+    // A number of 16 bits, and one of 32: a line each over `take`. (One for both would ask for a trait of numbers, with its laws.)
+    #[tactic(auto, unfolding(crate::specs::Cursor::take_at, crate::specs::Cursor::u16))]
     pub fn u16(self, s: &[u8]) -> Result<Read<u16>, WireError>
         ensures { read_parsed result ≡ u16 s.now self.at }
     {
         let part = self.take(s, 2)?;
-        Ok(Read {
-            value: le16_at(s, part.value),
-            next: part.next,
-        })
+        Ok(part.map(|at| le16_at(s, at)))
     }
 
+    #[tactic(auto, unfolding(crate::specs::Cursor::take_at, crate::specs::Cursor::u32))]
     pub fn u32(self, s: &[u8]) -> Result<Read<u32>, WireError>
         ensures { read_parsed result ≡ u32 s.now self.at }
     {
         let part = self.take(s, 4)?;
-        Ok(Read {
-            value: le32_at(s, part.value),
-            next: part.next,
-        })
+        Ok(part.map(|at| le32_at(s, at)))
     }
 
     // A string: its length in bytes as a u32, then that many bytes of UTF-8.
+    #[tactic(auto, unfolding(crate::specs::Cursor::string, crate::specs::Cursor::string_end))]
     pub fn string(self, s: &[u8]) -> Result<Read<Place>, StringError>
         ensures means { string_parsed result ≡ string s.now self.at }
         ensures ends { reached result ≡ string_end s.now self.at }
     {
-        match self.u32(s) {
-            Ok(length) => string_of(s, length.next, length.value as usize),
-            Err(error) => Err(StringError {
-                error,
-                reached: self,
-            }),
-        }
+        let length = self.u32(s).map_err(|error| StringError {
+            error,
+            reached: self,
+        })?;
+        string_of(s, length.next, length.value as usize)
     }
 }
 
 // A string of n bytes at a cursor.
+#[tactic(auto, unfolding(crate::specs::Cursor::string_of, crate::specs::Cursor::take_at))]
 fn string_of(s: &[u8], c: Cursor, n: usize) -> Result<Read<Place>, StringError>
     ensures means { string_parsed result ≡ string_of n s.now c.at }
     ensures ends { reached result ≡ next_position (take_at n s.now c.at) c.at }
 {
-    let bytes = match c.take(s, n) {
-        Ok(bytes) => bytes,
-        Err(error) => {
-            return Err(StringError { error, reached: c });
-        }
-    };
+    let bytes = c
+        .take(s, n)
+        .map_err(|error| StringError { error, reached: c })?;
     let start = bytes.value;
     let next = bytes.next;
     if !from_utf8(&s[start..next.at]) {
