@@ -4,6 +4,7 @@
 mod coeffs;
 mod counts;
 mod entries;
+mod entry;
 mod error;
 mod fill;
 mod gather;
@@ -12,6 +13,7 @@ mod lists;
 mod live;
 mod making;
 mod question;
+mod sounding;
 mod values;
 
 pub use error::MakeError;

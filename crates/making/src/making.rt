@@ -61,9 +61,9 @@ impl Entries<'_> {
         ensures { result ≡ fresh_voice kind (entries_in self.now) sample_rate centres.now }
     {
         let j = centres.len();
-        let k = self.channel_count(kind);
-        let m = self.phase_count(kind, k);
-        let live = self.live_bands(kind, k, j as u32);
+        let sounding = self.sounding(kind);
+        let m = self.phase_count(sounding);
+        let live = self.live_bands(sounding, j as u32);
         let bands = live.bands;
         let sorted = self.gather(kind);
         let image = self.image;
@@ -76,7 +76,7 @@ impl Entries<'_> {
                 blend,
                 channel,
                 count: views.len(),
-                k: k as usize,
+                k: sounding.channels as usize,
                 m: m as usize,
                 j,
                 live_count: live.count,
@@ -84,8 +84,8 @@ impl Entries<'_> {
                 live: bands,
             },
             lists: init(lists, j, sample_rate),
-            partials: kept.slots::<Partials, 2048>(kind, k),
-            noise: kept.slots::<Bands, 1024>(kind, k),
+            partials: kept.slots::<Partials, 2048>(sounding),
+            noise: kept.slots::<Bands, 1024>(sounding),
             state: first_state(),
         }
     }

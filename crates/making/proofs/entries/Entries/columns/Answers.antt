@@ -1,4 +1,4 @@
-use mathlib.Core.Path.{refl}
+use mathlib.Core.Path.{refl, ap, ◌∙◌}
 use native.Mathlib.Omega.{arith}
 use lib.Ieee.{of_bits, round}
 use Rattle.table.specs.Table.{PitchEntry}
@@ -22,6 +22,6 @@ loop-i-preserved c =
     record {
       pitches = rw c.from_bits.ensures (pad-again-2 (entry_at s) (λ (e : PitchEntry). f32 e.f0_hz) (quotient 0 1) no_view 16 l.i views l.pitches (omega arith) (omega arith) l.invariant.pitches);
       stretches = rw c.from_bits-in-loop-i.ensures (pad-again-2 (entry_at s) (λ (e : PitchEntry). f32 e.stretch) (quotient 0 1) no_view 16 l.i views l.stretches (omega arith) (omega arith) l.invariant.stretches);
-      mainlobes = rw c.gain_of.ensures (pad-again-2 (entry_at s) (gain_of mainlobe_key) (quotient 0 1) no_view 16 l.i views l.mainlobes (omega arith) (omega arith) l.invariant.mainlobes);
-      noises = rw c.gain_of-in-loop-i.ensures (pad-again-2 (entry_at s) (gain_of noise_gain_key) (quotient 0 1) no_view 16 l.i views l.noises (omega arith) (omega arith) l.invariant.noises);
+      mainlobes = rw (c.gain_of.ensures ∙ ap (gain_of mainlobe_key) c.entry-entry.ensures) (pad-again-2 (entry_at s) (gain_of mainlobe_key) (quotient 0 1) no_view 16 l.i views l.mainlobes (omega arith) (omega arith) l.invariant.mainlobes);
+      noises = rw (c.gain_of-in-loop-i.ensures ∙ ap (gain_of noise_gain_key) c.entry-entry.ensures) (pad-again-2 (entry_at s) (gain_of noise_gain_key) (quotient 0 1) no_view 16 l.i views l.noises (omega arith) (omega arith) l.invariant.noises);
     }

@@ -5,4 +5,4 @@ use Rattle.making.specs.Making.{live_bands}
 use Rattle.making.proofs.entries.Entries.live_bands.Given as goal
 
 abbrev pub invariant-loop-b : goal.invariant-loop-b
-invariant-loop-b l = l.live ≡ live_of (live_bands l.kind (entries_in l.self) l.b)
+invariant-loop-b l = l.live ≡ live_of (live_bands l.sounding.kind (entries_in l.self) l.b)

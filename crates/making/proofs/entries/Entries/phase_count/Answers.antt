@@ -12,8 +12,8 @@ pub returns : goal.returns
 returns c =
     let s = c.args.self.now.image.now in
     let views = c.args.self.now.views.now in
-    let h = λ (v : EntryView). phases_for c.args.kind c.args.n (entry_at s v) in
+    let h = λ (v : EntryView). phases_for c.args.sounding.kind c.args.sounding.channels (entry_at s v) in
     c.unwrap_or.ensures
     ∙ ap (λ o. unwrap_or o 0) (reduce_from_yields_List _ c.map.result _ c.max.ensures.ran (YieldsList-from_map _ h (YieldsList-from_slice views (cc)) c.map.ensures.closure (λ x b q k. search (rules, tests))))
     ∙ max_of_map h views
-    ∙ most-viewed s (phases_for c.args.kind c.args.n) views
+    ∙ most-viewed s (phases_for c.args.sounding.kind c.args.sounding.channels) views

@@ -13,12 +13,12 @@ use Rattle.table.specs.View.{entry_at}
 use Rattle.table.proofs.WordLaws.{length-words}
 use Rattle.making.specs.Making.{f32}
 use Rattle.making.proofs.ViewLaws.{all-listed}
-use Rattle.making.proofs.values.coefficients_ok.Goals as goal
+use Rattle.making.proofs.entry.Entry.coefficients_ok.Goals as goal
 
 pub returns : goal.returns
 returns c =
-    let s = c.args.s.now in
-    let v = c.args.v in
+    let s = c.args.self.now.image.now in
+    let v = c.args.self.now.view in
     let n = v.coefficients in
     let l = (entry_at s v).coefficients in
     let at = λ (x : ℕ). get_or l x 0 in

@@ -7,12 +7,12 @@ use Rattle.table.specs.View.{entry_at}
 use Rattle.making.specs.Making.{partial_reach}
 use Rattle.making.proofs.CoeffLaws.{partials-are}
 use Rattle.making.proofs.RangeLaws.{reach-below}
-use Rattle.making.proofs.counts.reach_in.Goals as goal
+use Rattle.making.proofs.entry.Entry.reach_in.Goals as goal
 
 pub returns : goal.returns
 returns c =
-    let s = c.args.s.now in
-    let v = c.args.v in
+    let s = c.args.self.now.image.now in
+    let v = c.args.self.now.view in
     let h = λ (q : ℕ). partial_reach (entry_at s v) q v.m_partials in
     c.unwrap_or.ensures
     ∙ ap (λ o. unwrap_or o 0) (reduce_from_yields_List _ c.map.result _ c.max.ensures.ran (YieldsList-from_map _ h (YieldsList-from_range 0 c.args.n c.args.n c.map.ensures.source (omega arith)) c.map.ensures.closure (λ x b q k. search (rules, tests))))

@@ -1,7 +1,7 @@
 use lib.Ieee.{of_bits, round}
 use borrow.Author.Rules.{rules}
 use Rattle.making.proofs.CoeffLaws.{gain-is}
-use Rattle.making.proofs.coeffs.gain_of.Goals as goal
+use Rattle.making.proofs.entry.Entry.gain_of.Goals as goal
 
 pub returns : goal.returns
 unfolding of_bits round

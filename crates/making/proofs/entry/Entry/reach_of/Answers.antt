@@ -4,7 +4,7 @@ use native.Mathlib.Omega.{arith}
 use lib.Ieee.{of_bits, round}
 use Rattle.making.specs.Making.{partial_reach, is_nonzero}
 use Rattle.making.proofs.CoeffLaws.{reach-hit, reach-miss}
-use Rattle.making.proofs.counts.reach_of.Goals as goal
+use Rattle.making.proofs.entry.Entry.reach_of.Goals as goal
 
 pub returns-then-partial_coeff : goal.returns-then-partial_coeff
 unfolding of_bits round
