@@ -18,7 +18,8 @@ fn channel_at<'a>(
     ch: usize,
     out: &mut [f32],
 )
-    requires { VoiceFits timbre.set.now timbre.lists.now state.old.phases × CallFits (call_of shape inputs) × (length out.old ≡ shape.samples) }
+    requires { VoiceFits timbre.set.now timbre.lists.now state.old.phases × CallFits (call_of shape inputs)
+        × (length out.old ≡ shape.samples) }
     ensures { ChannelPlayed (toned timbre.entry state.old) (frequency_at (call_of shape inputs.entry) ch)
         (gains_at (call_of shape inputs.entry) ch) shape.samples state.new out.new }
 {

@@ -1,5 +1,6 @@
-// Columns of floats: 32 places, of which the first n are in use. One loop over a column does one thing, so that the processor does
-// several places at once. A column that is written is taken as a slice: then the proof knows how long it is.
+// Columns of floats: 32 places, of which the first n are in use. One loop over a column does one thing, so that the processor can do
+// several places at once where no floats are compared and no place waits for the one before it.
+// Where several columns share one n, it is handed beside them: slices of what is in use would need a clause that their lengths agree.
 ghost use Rattle.std.specs.Prelude.{◌≡◌, ℕ, ◌≤◌, ◌<◌, ◌+◌, ◌*◌, length, get_or, Float};
 ghost use Rattle.std.specs.Float.{nan};
 ghost use Rattle.std.specs.Float.Ieee.{le};
@@ -32,8 +33,8 @@ pub fn all_up_to(xs: &[f32; 32], n: usize, limit: f32) -> bool
     ok
 }
 
-// What each place adds to a sum: `term` of it, or -0, which changes no sum, where its coefficient is 0. The store and then the store under
-// a test are what the processor does several of at once.
+// What each place adds to a sum: `term` of it, or -0, which changes no sum, where its coefficient is 0. The term is worked out at every
+// place, and written over where it does not count.
 pub fn fill_terms<F: Fn(usize) -> f32>(terms: &mut [f32; 32], coeffs: &[f32], n: usize, term: F)
     requires { (n ≤ 32) × (n ≤ length coeffs.now) × ((i : ℕ) → i < n → F.pre term i) }
     ensures { (f : ℕ → Float) → GivesEach (F.post term) n f → Filled terms.new (λ i. audible (get_or coeffs.now i nan) (f i)) n }

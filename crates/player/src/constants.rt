@@ -7,7 +7,7 @@ use voice::Setting;
 
 #[derive(Clone, Copy)]
 pub struct Constants {
-    pub blend: u32,
+    pub blend: u32, // 0: a single voice. A copy of `Setting.blend`, which crosses to C
     pub k: usize,
     pub m: usize,
     pub inv: f32, // 1 / rate

@@ -46,15 +46,15 @@ pub fn parts_of<'a>(shape: Shape, inputs: Inputs<'a>, ch: usize) -> Inputs<'a>
 fn read_or(part: &[f32], i: usize, other: f32) -> f32
     ensures { result ≡ get_or part.now i other }
 {
-    if i < part.len() { part[i] } else { other }
+    part.get(i).copied().unwrap_or(other)
 }
 
 // One that is not finite, negative or -0 becomes 0.
 fn clean(f: f32) -> f32
     ensures { result ≡ cleaned f }
 {
-    if float::is_finite(f) {
-        if 0.0 < f { f } else { 0.0 }
+    if float::is_finite(f) && 0.0 < f {
+        f
     } else {
         0.0
     }

@@ -9,7 +9,6 @@ use voice::{CallError, Inputs, Shape, Voice, play_question};
 
 // Plays a block of the voice itself, which moves on. A refusal leaves voice and output as they are. Of the voice only the noise number is
 // copied.
-#[tactic(auto, unfolding(voice::specs::Question::play_question, voice::specs::Question::ask, crate::specs::Playing::played, crate::specs::Playing::played_out))]
 pub fn play<'a>(
     voice: &mut Voice,
     shape: Shape,

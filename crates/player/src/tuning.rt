@@ -27,7 +27,7 @@ pub struct Tuning {
     f0: Option<f32>, // the frequency, once there is one
     freqs: [f32; 32], // only worked in
     pub mainlobe: f32,
-    pub small: bool, // no step is above 31/32
+    pub small: bool, // no step is above 31/32: decided with the columns, and says which of two loops moves the phases
     pub incs: [f32; 32],
     pub fades: [f32; 32],
     pub rows: [f32; 128],
@@ -152,7 +152,8 @@ impl NoiseTuning {
     )
         requires entries_in { EntriesIn entries.now × Within max_hz 1 f0 }
         requires counts_in { (x.k ≤ max_blended) × LiveFits live.now }
-        requires kept { (was : Float) → self.old.f0 ≡ Some was → eq f0 was ≡ true → NoiseTuned x entries.now noise.now live.now f0 self.old }
+        requires kept { (was : Float) → self.old.f0 ≡ Some was → eq f0 was ≡ true
+            → NoiseTuned x entries.now noise.now live.now f0 self.old }
         ensures { NoiseTuned x entries.now noise.now live.now f0 self.new }
     {
         if self.f0.is_some_and(|was| f0 == was) {

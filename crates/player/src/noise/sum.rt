@@ -43,7 +43,8 @@ fn band_terms<'a>(
     n: usize,
 )
     requires { (n ≤ 32) × (n ≤ length coeffs.now) }
-    ensures { Filled terms.new (λ l. band_term (get_or coeffs.now l nan) noise_gain gain (get_or bands.now.makeup l nan) (get_or bands.now.ys l nan)) n }
+    ensures { Filled terms.new (λ l. band_term (get_or coeffs.now l nan) noise_gain gain
+        (get_or bands.now.makeup l nan) (get_or bands.now.ys l nan)) n }
 {
     fill_terms(
         terms,
@@ -51,7 +52,8 @@ fn band_terms<'a>(
         n,
         |l|
             requires { (l < 32) × (l < length coeffs.now) }
-            ensures { result ≡ get_or coeffs.entry.now l nan ⊗ noise_gain ⊗ gain ⊗ get_or bands.entry.now.makeup l nan ⊗ get_or bands.entry.now.ys l nan }
+            ensures { result ≡ get_or coeffs.entry.now l nan ⊗ noise_gain ⊗ gain
+                ⊗ get_or bands.entry.now.makeup l nan ⊗ get_or bands.entry.now.ys l nan }
         { coeffs[l] * noise_gain * gain * bands.makeup[l] * bands.ys[l] },
     );
 }

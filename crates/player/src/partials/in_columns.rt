@@ -1,5 +1,5 @@
 // The partials of a channel's samples. What a frequency decides is worked out once while it stays; the partials of a sample are worked
-// out in columns, several at a time. `terms` and `coeffs` are only worked in.
+// out in columns, one step of all of them after the other. `terms` and `coeffs` are only worked in.
 ghost use Rattle.std.specs.Prelude.{◌≡◌, true, ◌≤◌, length};
 ghost use Rattle.voice.specs.Voice.{phases_ok};
 ghost use Rattle.player.specs.inner.Passes.{EntriesFit, FrequenciesFit, PartialsPlayed, frequency_in, gains_in, partials_of};

@@ -12,7 +12,7 @@ ghost use Rattle.voice.specs.Limits.{max_partials};
 use crate::partials::phase::{advance, advance_small};
 use crate::tuning::Tuning;
 
-// SMALL says that no step is above 31/32: then the processor does several at once.
+// SMALL says that no step is above 31/32: then every sum is below 2, and needs one comparison and no floor.
 fn move_each<const SMALL: bool>(phases: &mut [f32; 32], incs: &[f32; 32], m: usize)
     requires { (m ≤ max_partials) × (phases_ok phases.old m ≡ true) × AllSteps incs.now m
         × (SMALL ≡ true → every (λ i. le (get_or incs.now i nan) (quotient 31 32)) m ≡ true) }
