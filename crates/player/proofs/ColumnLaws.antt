@@ -2,18 +2,18 @@
 use mathlib.Core.Path.{◌≡◌, refl, sym, ap, ◌∙◌}
 use mathlib.Core.Logic.{⊎_elim}
 use mathlib.Core.List.{List, ◌++◌}
-use mathlib.Core.Bool.{Bool, true, false, cond}
+use mathlib.Core.Bool.{Bool, true, false, cond, ◌&&◌}
 use Prim.Native.Nat.{ℕ, zero, suc, ◌+◌, ◌*◌, ◌≤◌, ◌<◌}
 use native.Mathlib.Nat.{eq-or-lt_of_le}
 use native.Mathlib.Omega.{arith}
-use lib.ListN.{length, get_or, set, replicate, get_or-append, length-replicate, get_or-replicate}
-use lib.Seq.{get_or-set_same, get_or-set_other, lt-length-set}
+use lib.ListN.{length, get_or, set, take, replicate, get_or-append, length-replicate, get_or-replicate}
+use lib.Seq.{get_or-set_same, get_or-set_other, lt-length-set, get_or-take, length-take-le}
 use lib.Dec.{T}
 use lib.Ieee.{Float, nan, binary32, fits, eq, ne}
 use lib.Ieee.Fits.{add-fits}
 use Rattle.float.specs.F32.{◌⊕◌, quotient}
 use Rattle.float.proofs.Identities.{add-minus-zero}
-use Rattle.voice.specs.Lists.{map_to, steps}
+use Rattle.voice.specs.Lists.{map_to, steps, every}
 use Rattle.filters.specs.Biquad.{tick_of}
 use Rattle.voice.specs.Voice.{memory_at}
 use Rattle.player.specs.inner.Columns.{added, audible, minus_zero, state_of_columns, coeffs_of_rows, Memories, Ticked, Filled, FilledRows}
@@ -81,12 +81,30 @@ unfolding steps
 sum_fits xs y zero h = h
 sum_fits xs y (suc n) h = add-fits binary32 _ _
 
--- LAW: what `sum_of` ensures, where adding place i to a number of the format is step i
-pub sum_is : (xs : List Float) (g : ℕ → Float → Float) (y : Float) (n : ℕ) → T (fits binary32 y) → ((i : ℕ) → i < n → (z : Float) → T (fits binary32 z) → z ⊕ get_or xs i nan ≡ g i z)
+sum-steps : (xs : List Float) (g : ℕ → Float → Float) (y : Float) (n : ℕ) → T (fits binary32 y)
+    → ((i : ℕ) → i < n → (z : Float) → T (fits binary32 z) → z ⊕ get_or xs i nan ≡ g i z)
     → steps (λ i y. y ⊕ get_or xs i nan) y n ≡ steps g y n
 unfolding steps
-sum_is xs g y zero h e = refl
-sum_is xs g y (suc n) h e = e n (omega arith) _ (sum_fits xs y n h) ∙ ap (g n) (sum_is xs g y n h (λ i l. e i (omega arith)))
+sum-steps xs g y zero h e = refl
+sum-steps xs g y (suc n) h e =
+    e n (omega arith) _ (sum_fits xs y n h) ∙ ap (g n) (sum-steps xs g y n h (λ i l. e i (omega arith)))
+
+-- ---- the first n places as a slice: steps over them, and a test of each
+pub first-steps : {A : Type 0} (f : Float → ℕ → A → A) (xs : List Float) (s : A) (n : ℕ) → n ≤ length xs
+    → steps (λ i y. f (get_or (take n xs) i nan) i y) s (length (take n xs)) ≡ steps (λ i y. f (get_or xs i nan) i y) s n
+first-steps f xs s n h =
+    rw (length-take-le n xs h)
+    (steps-as _ _ s n (λ i l y. ap (λ (x : Float). f x i y) (get_or-take n xs i nan l)))
+
+pub first-every : (test : Float → Bool) (xs : List Float) (n : ℕ) → n ≤ length xs
+    → every (λ i. test (get_or (take n xs) i nan)) (length (take n xs)) ≡ every (λ i. test (get_or xs i nan)) n
+first-every test xs n h = first-steps (λ x i b. b && test x) xs true n h
+
+-- LAW: what `sum_of` ensures of the first n places, where adding place i to a number of the format is step i
+pub sum_is : (xs : List Float) (g : ℕ → Float → Float) (y : Float) (n : ℕ) → n ≤ length xs → T (fits binary32 y)
+    → ((i : ℕ) → i < n → (z : Float) → T (fits binary32 z) → z ⊕ get_or xs i nan ≡ g i z)
+    → steps (λ i y. y ⊕ get_or (take n xs) i nan) y (length (take n xs)) ≡ steps g y n
+sum_is xs g y n l h e = first-steps (λ x i y. y ⊕ x) xs y n l ∙ sum-steps xs g y n h e
 
 -- ---- rows of 32 places
 -- the first starts at place 0

@@ -2,9 +2,9 @@
 use mathlib.Core.Path.{◌≡◌, refl, sym, ap, ◌∙◌}
 use mathlib.Core.List.{List}
 use mathlib.Core.Bool.{Bool, true, false, not, cond}
-use Prim.Native.Nat.{ℕ, zero, suc, ◌<◌}
+use Prim.Native.Nat.{ℕ, zero, suc, ◌<◌, ◌≤◌}
 use native.Mathlib.Omega.{arith}
-use lib.ListN.{get_or}
+use lib.ListN.{get_or, length, take}
 use lib.Dec.{T, eqb}
 use lib.Ieee.{Float, nan, binary32, fits, ne, round}
 use lib.Ieee.Fits.{round-fits, add-fits, mul-fits}
@@ -20,7 +20,13 @@ use Rattle.player.specs.Sound.{sides_at, fade_at, partial_row, noise_row, add_si
 use Rattle.player.specs.inner.Columns.{added, audible, band_term}
 use Rattle.player.specs.inner.Terms.{term_gain, sample_coeff, band_coeff}
 use Rattle.voice.specs.declared.voice.Voice.{Voice}
-use Rattle.player.proofs.ColumnLaws.{steps-as, add-audible}
+use Rattle.player.proofs.ColumnLaws.{steps-as, first-steps, add-audible}
+
+-- LAW: a blend over the first k gains as a slice
+pub blend-of-first : (row : ℕ → Float) (g : List Float) (k : ℕ) → k ≤ length g
+    → blend_coeff row (take k g) (length (take k g)) ≡ blend_coeff row g k
+unfolding blend_coeff
+blend-of-first row g k h = first-steps (λ x q y. y ⊕ x ⊗ row q) g (quotient 0 1) k h
 
 -- a product times 1
 times-one : (a b : Float) → a ⊗ b ⊗ quotient 1 1 ≡ a ⊗ b

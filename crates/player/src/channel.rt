@@ -1,8 +1,7 @@
 // One channel of a block, in two passes: the partials of all samples, and then what the live bands add.
 // It starts from the state that it is lent, and leaves there the state at its end.
-ghost use Rattle.std.specs.Prelude.{◌≡◌, true, ◌≤◌, length};
-ghost use Rattle.voice.specs.Voice.{phases_ok};
-ghost use Rattle.player.specs.inner.Passes.{EntriesFit, VoiceFits, FrequenciesFit, frequency_in, gains_in};
+ghost use Rattle.std.specs.Prelude.{length};
+ghost use Rattle.player.specs.inner.Passes.{VoiceFits, PartialsFit, FrequenciesFit, frequency_in, gains_in};
 ghost use Rattle.player.specs.inner.Passes.{toned, partials_of, PartialsPlayed, ChannelPlayed};
 
 use crate::bands::live_of;
@@ -14,8 +13,7 @@ use voice::{Inputs, State};
 
 // The partials: none, few, or so many that columns are worth while.
 fn all_partials<'a>(timbre: Timbre<'a>, phases: &mut [f32; 32], inputs: Inputs<'a>, out: &mut [f32])
-    requires { EntriesFit timbre.set.now timbre.lists.now × (phases_ok phases.old timbre.set.now.m ≡ true)
-        × (1 ≤ timbre.set.now.count) × FrequenciesFit inputs.freq.now }
+    requires { PartialsFit timbre phases.old inputs }
     ensures { PartialsPlayed (partials_of timbre.entry phases.old) (frequency_in inputs.entry) (gains_in inputs.entry)
         (length out.old) phases.new out.new }
 {

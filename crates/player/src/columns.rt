@@ -9,25 +9,23 @@ ghost use Rattle.voice.specs.Limits.{max_blended};
 ghost use Rattle.voice.specs.Lists.{every, steps};
 ghost use Rattle.player.specs.inner.Columns.{audible, Filled, FilledRows, GivesEach, GivesRows, GivesAll};
 
-// The first n places added to y, one after the other.
-pub fn sum_of(y: f32, xs: &[f32; 32], n: usize) -> f32
-    requires { n ≤ 32 }
-    ensures { result ≡ steps (λ i y. y ⊕ get_or xs.now i nan) y n }
+// These places added to y, one after the other.
+pub fn sum_of(y: f32, xs: &[f32]) -> f32
+    ensures { result ≡ steps (λ i y. y ⊕ get_or xs.now i nan) y (length xs.now) }
 {
     let mut sum = y;
-    for x in &xs[..n] {
+    for x in xs {
         sum += *x;
     }
     sum
 }
 
-// Whether none of the first n places is above the limit, or a NaN.
-pub fn all_up_to(xs: &[f32; 32], n: usize, limit: f32) -> bool
-    requires { n ≤ 32 }
-    ensures { result ≡ every (λ i. le (get_or xs.now i nan) limit) n }
+// Whether none of these places is above the limit, or a NaN.
+pub fn all_up_to(xs: &[f32], limit: f32) -> bool
+    ensures { result ≡ every (λ i. le (get_or xs.now i nan) limit) (length xs.now) }
 {
     let mut ok = true;
-    for x in &xs[..n] {
+    for x in xs {
         ok &= *x <= limit;
     }
     ok

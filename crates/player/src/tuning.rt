@@ -125,7 +125,7 @@ impl Tuning {
         fades_of(&mut self.fades, &self.freqs, x.m, x.nyquist);
         rows_of(&mut self.rows, partials, p.s, x.rows(), x.m);
         self.mainlobe = p.mainlobe;
-        self.small = all_up_to(&self.incs, x.m, 0.96875);
+        self.small = all_up_to(&self.incs[..x.m], 0.96875);
         self.f0 = Some(f0);
     }
 }

@@ -37,6 +37,11 @@ pub record LiveFit (s : Setting) : Type 0 where
 abbrev pub FrequenciesFit : List Float → Type 0
 FrequenciesFit fs = (i : ℕ) → frequency_ok (frequency_of fs i) ≡ true
 
+-- of what the partials of a channel are played from: one entry at least, the phases, and the frequencies of the parts that are read
+abbrev pub PartialsFit : Timbre → List Float → Inputs → Type 0
+PartialsFit t phases parts =
+    EntriesFit t.set.now t.lists.now × (phases_ok phases t.set.now.m ≡ true) × (1 ≤ t.set.now.count) × FrequenciesFit parts.freq.now
+
 -- all that a channel or a block needs of the voice
 pub record VoiceFits (s : Setting) (lists phases : List Float) : Type 0 where
   pub entries : EntriesFit s lists

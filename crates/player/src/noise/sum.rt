@@ -1,7 +1,6 @@
 // The noise of a sample: the number that every live band hears, and what a band adds.
 ghost use Rattle.std.specs.Prelude.{cond, ◌≡◌, ◌≤◌, ◌<◌, ◌+◌, ◌*◌, length, get_or, eqb};
 ghost use Rattle.std.specs.Float.{nan};
-ghost use Rattle.float.specs.Sqrt.{sqrt};
 ghost use Rattle.float.specs.F32.{◌⊕◌, ◌⊗◌};
 ghost use Rattle.voice.specs.Lists.{steps};
 ghost use Rattle.player.specs.inner.Ranges.{SidesIn};
@@ -58,14 +57,6 @@ fn band_terms<'a>(
     );
 }
 
-// The roots of the powers.
-fn roots(terms: &mut [f32; 32], powers: &[f32; 32], n: usize)
-    requires { n ≤ 32 }
-    ensures { Filled terms.new (λ l. sqrt (get_or powers.now l nan)) n }
-{
-    float::sqrt_each(terms, powers, n);
-}
-
 // The sample y with what the live bands add to it. Of a single voice the first row is the coefficients; of a blend the roots of the powers
 // are, and what each band adds is written over the powers. Terms and powers are lent to be written on.
 pub fn noise_sum<'a>(
@@ -85,7 +76,7 @@ pub fn noise_sum<'a>(
     if x.blend == 0 {
         let row = &tuning.rows[..];
         band_terms(terms, row, tuning.noise_gain, gain, bands, n);
-        return sum_of(y, terms, n);
+        return sum_of(y, &terms[..n]);
     }
     blend(
         powers,
@@ -97,8 +88,8 @@ pub fn noise_sum<'a>(
             ensures { result ≡ share ⊗ share }
         { share * share },
     );
-    roots(terms, powers, n);
+    float::sqrt_each(terms, &powers[..], n);
     let coeffs = &terms[..];
     band_terms(powers, coeffs, tuning.noise_gain, gain, bands, n);
-    sum_of(y, powers, n)
+    sum_of(y, &powers[..n])
 }

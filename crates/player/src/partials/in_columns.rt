@@ -1,8 +1,7 @@
 // The partials of a channel's samples. What a frequency decides is worked out once while it stays; the partials of a sample are worked
 // out in columns, one step of all of them after the other. `terms` and `coeffs` are only worked in.
-ghost use Rattle.std.specs.Prelude.{◌≡◌, true, ◌≤◌, length};
-ghost use Rattle.voice.specs.Voice.{phases_ok};
-ghost use Rattle.player.specs.inner.Passes.{EntriesFit, FrequenciesFit, PartialsPlayed, frequency_in, gains_in, partials_of};
+ghost use Rattle.std.specs.Prelude.{length};
+ghost use Rattle.player.specs.inner.Passes.{PartialsFit, PartialsPlayed, frequency_in, gains_in, partials_of};
 
 use crate::constants::Constants;
 use crate::input::{frequency_at, gains_at};
@@ -21,8 +20,7 @@ pub fn partials_in_columns<'a>(
     inputs: Inputs<'a>,
     out: &mut [f32],
 )
-    requires { EntriesFit timbre.set.now timbre.lists.now × (phases_ok phases.old timbre.set.now.m ≡ true)
-        × (1 ≤ timbre.set.now.count) × FrequenciesFit inputs.freq.now }
+    requires { PartialsFit timbre phases.old inputs }
     ensures { PartialsPlayed (partials_of timbre.entry phases.old) (frequency_in inputs.entry) (gains_in inputs.entry)
         (length out.old) phases.new out.new }
 {

@@ -1,5 +1,5 @@
 // The partials of a sample one after the other: every phase moves, and those with a coefficient sound.
-ghost use Rattle.std.specs.Prelude.{◌≡◌, true, ◌≤◌, ◌<◌, ◌+◌};
+ghost use Rattle.std.specs.Prelude.{◌≡◌, true, ◌≤◌, ◌<◌, ◌+◌, length};
 ghost use Rattle.float.specs.inner.Range.{Within};
 ghost use Rattle.float.specs.F32.{quotient};
 ghost use Rattle.voice.specs.Lists.{map_to, steps};
@@ -21,45 +21,29 @@ use crate::pitch::bracket::{Sides, place_between};
 use crate::pitch::entries::Pitch;
 use filters::sine;
 
-// The sum of the gains times the coefficients of partial i, over k channels.
-fn blend_coeff<'a>(
-    partials: &'a [f32; 2048],
-    gains: &'a [f32; 4],
-    k: usize,
-    s: Sides,
-    i: usize,
-) -> f32
+// The sum of the gains times the coefficients of partial i, over as many channels as there are gains.
+fn blend_coeff(partials: &[f32; 2048], gains: &[f32], s: Sides, i: usize) -> f32
     requires sides_in { SidesIn max_entries s }
-    requires places_in { (k ≤ max_blended) × (i < max_partials) }
-    ensures { result ≡ blend_coeff (λ q. partial_row partials.now s q i) gains.now k }
+    requires places_in { (length gains.now ≤ max_blended) × (i < max_partials) }
+    ensures { result ≡ blend_coeff (λ q. partial_row partials.now s q i) gains.now (length gains.now) }
 {
-    let all = &partials[..];
     let mut y: f32 = 0.0;
-    for q in 0..k {
-        let at = q * 32 + i;
-        y = y + gains[q] * place_between(all, s, 128, at);
+    for (q, gain) in gains.iter().enumerate() {
+        y += *gain * place_between(&partials[..], s, 128, q * 32 + i);
     }
     y
 }
 
 // The coefficient of partial i: of a single voice its row's.
-fn partial_coeff<'a>(
-    partials: &'a [f32; 2048],
-    gains: &'a [f32; 4],
-    blend: u32,
-    k: usize,
-    s: Sides,
-    i: usize,
-) -> f32
+fn partial_coeff(x: Constants, partials: &[f32; 2048], gains: &[f32; 4], s: Sides, i: usize) -> f32
     requires sides_in { SidesIn max_entries s }
-    requires places_in { (k ≤ max_blended) × (i < max_partials) }
-    ensures { result ≡ sample_coeff blend k (λ q. partial_row partials.now s q i) gains.now }
+    requires places_in { (x.k ≤ max_blended) × (i < max_partials) }
+    ensures { result ≡ sample_coeff x.blend x.k (λ q. partial_row partials.now s q i) gains.now }
 {
-    if blend == 0 {
-        let all = &partials[..];
-        return place_between(all, s, 128, i);
+    if x.blend == 0 {
+        return place_between(&partials[..], s, 128, i);
     }
-    blend_coeff(partials, gains, k, s, i)
+    blend_coeff(partials, &gains[..x.k], s, i)
 }
 
 // The fade and the sine are worked out only where they are audible.
@@ -107,7 +91,7 @@ pub fn sample_of<'a>(
         let freq = partial_freq((i + 1) as u32, p.f0, p.stretch);
         let phase = advance(phases[i], freq * x.inv);
         phases[i] = phase;
-        let coeff = partial_coeff(partials, gains, x.blend, x.k, p.s, i);
+        let coeff = partial_coeff(x, partials, gains, p.s, i);
         y = add_partial(wave, y, coeff, p.mainlobe, freq, x.nyquist, gain, phase);
     }
     y

@@ -53,7 +53,7 @@ pub fn partial_sum<'a>(
     if x.blend == 0 {
         let row = &tuning.rows[..];
         partial_terms(terms, row, tuning, gain, sines, x.m);
-        return sum_of(0.0, terms, x.m);
+        return sum_of(0.0, &terms[..x.m]);
     }
     blend(
         coeffs,
@@ -67,5 +67,5 @@ pub fn partial_sum<'a>(
     );
     let blended = &coeffs[..];
     partial_terms(terms, blended, tuning, gain, sines, x.m);
-    sum_of(0.0, terms, x.m)
+    sum_of(0.0, &terms[..x.m])
 }

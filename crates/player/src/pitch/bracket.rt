@@ -3,10 +3,8 @@ ghost use Rattle.std.specs.Prelude.{◌≡◌, true, false, ◌≤◌, ◌<◌, 
 ghost use Rattle.std.specs.Float.{nan};
 ghost use Rattle.std.specs.Float.Ieee.{le};
 ghost use Rattle.float.specs.inner.Range.{Within};
-ghost use Rattle.voice.specs.Lists.{every};
 ghost use Rattle.player.specs.Share.{share_of};
-ghost use Rattle.voice.specs.Voice.{pitch_ok};
-ghost use Rattle.player.specs.Bracket.{bracket_of, sides_of, value_between, place_between};
+ghost use Rattle.player.specs.Bracket.{sides_of, value_between, place_between};
 ghost use Rattle.player.specs.inner.Ranges.{NoneNotAbove};
 ghost use Rattle.player.specs.inner.Ranges.{SidesIn};
 ghost use Rattle.voice.specs.Limits.{max_entries, max_hz};
@@ -27,7 +25,7 @@ pub struct Sides {
 }
 
 // The last of these pitches that is not above f0.
-fn last_not_above(pitches: &[f32], f0: f32) -> Option<usize>
+pub fn last_not_above(pitches: &[f32], f0: f32) -> Option<usize>
     ensures { MatchOption result (NoneNotAbove pitches.now f0 0) (λ i. (i < length pitches.now) × (le (get_or pitches.now i nan) f0 ≡ true)
         × NoneNotAbove pitches.now f0 (i + 1)) }
 {
@@ -35,29 +33,11 @@ fn last_not_above(pitches: &[f32], f0: f32) -> Option<usize>
 }
 
 // The share of f0 between two pitches.
-fn share(lo: f32, f0: f32, hi: f32) -> f32
+pub fn share(lo: f32, f0: f32, hi: f32) -> f32
     requires { Within max_hz 1 lo × Within max_hz 1 f0 × Within max_hz 1 hi × (le lo f0 ≡ true) × (le hi f0 ≡ false) }
     ensures { (result ≡ share_of lo f0 hi) × Within 1 1 result }
 {
     (f0 - lo) / (hi - lo)
-}
-
-pub fn bracket_at(f0_hz: &[f32; 16], count: usize, f0: f32) -> Bracket
-    requires { (1 ≤ count) × (count ≤ max_entries) × (every (λ i. pitch_ok (get_or f0_hz.now i nan)) count ≡ true) × Within max_hz 1 f0 }
-    ensures value { result ≡ bracket_of f0_hz.now count f0 }
-    ensures sides_in { SidesIn count (sides_of result) × Within 1 1 (sides_of result).t }
-{
-    if f0 <= f0_hz[0] {
-        return Bracket::One(0);
-    }
-    let last = count - 1;
-    if f0_hz[last] <= f0 {
-        return Bracket::One(last);
-    }
-    match last_not_above(&f0_hz[..last], f0) {
-        None => Bracket::One(0),
-        Some(lo) => Bracket::Between(lo, lo + 1, share(f0_hz[lo], f0, f0_hz[lo + 1])),
-    }
 }
 
 pub fn both_sides(b: Bracket) -> Sides

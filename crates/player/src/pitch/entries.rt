@@ -3,10 +3,11 @@ ghost use Rattle.std.specs.Prelude.{◌≡◌, true};
 ghost use Rattle.std.specs.Float.Ieee.{eq};
 ghost use Rattle.float.specs.inner.Range.{Within};
 ghost use Rattle.voice.specs.Limits.{max_hz};
+ghost use Rattle.player.specs.Bracket.{bracket_of, sides_of};
 ghost use Rattle.player.specs.inner.Tuning.{EntriesIn, PitchAt, entries_at, sides_in};
 ghost use Rattle.player.specs.inner.Ranges.{SidesIn};
 
-use crate::pitch::bracket::{Sides, both_sides, bracket_at, value_between};
+use crate::pitch::bracket::{Bracket, Sides, both_sides, last_not_above, share, value_between};
 use crate::pitch::stretch::stretch_between;
 use crate::timbre::Timbre;
 use voice::{MAINLOBE_GAINS, NOISE_GAINS, PITCHES, STRETCHES, list_of};
@@ -43,13 +44,33 @@ impl Entries {
         }
     }
 
+    // Between which of them f0 lies.
+    fn bracket_at(&self, f0: f32) -> Bracket
+        requires { EntriesIn self.now × Within max_hz 1 f0 }
+        ensures value { result ≡ bracket_of self.now.f0_hz self.now.count f0 }
+        ensures inside { SidesIn self.now.count (sides_of result) × Within 1 1 (sides_of result).t }
+    {
+        let f0_hz = &self.f0_hz;
+        if f0 <= f0_hz[0] {
+            return Bracket::One(0);
+        }
+        let last = self.count - 1;
+        if f0_hz[last] <= f0 {
+            return Bracket::One(last);
+        }
+        match last_not_above(&f0_hz[..last], f0) {
+            None => Bracket::One(0),
+            Some(lo) => Bracket::Between(lo, lo + 1, share(f0_hz[lo], f0, f0_hz[lo + 1])),
+        }
+    }
+
     // The sides of f0 among the entries.
     pub fn sides_at(&self, f0: f32) -> Sides
         requires { EntriesIn self.now × Within max_hz 1 f0 }
         ensures value { result ≡ sides_in self.now f0 }
         ensures inside { SidesIn self.now.count result × Within 1 1 result.t }
     {
-        both_sides(bracket_at(&self.f0_hz, self.count, f0))
+        both_sides(self.bracket_at(f0))
     }
 
     pub fn pitch_at(&self, f0: f32) -> Pitch

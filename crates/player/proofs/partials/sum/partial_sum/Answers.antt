@@ -1,5 +1,5 @@
 -- `partial_sum` meets its contract.
-use Rattle.std.proofs.Common.{sym, ◌∙◌, false}
+use Rattle.std.proofs.Common.{sym, ◌∙◌, false, arith}
 use lib.Ieee.{binary32, of_bits, round}
 use lib.Ieee.Fits.{round-fits}
 use borrow.Author.Tests.{eq-eqb, ne_eqb}
@@ -14,7 +14,7 @@ unfolding of_bits round
 returns-then-x-eq0 c =
     let a = c.args in
     c.sum_of.ensures
-    ∙ sum_is c.partial_terms.new.terms _ (quotient 0 1) a.x.m (round-fits binary32 false 0 1)
+    ∙ sum_is c.partial_terms.new.terms _ (quotient 0 1) a.x.m (omega arith) (round-fits binary32 false 0 1)
     (λ i h z f. partial-stored z _ _ _ _ _ _ _ _ f (c.partial_terms.ensures.at i h) (rw (eq-eqb _ _ c.if-x-eq0.true) (sym (first-row a.tuning.now.rows i))) c.term_gain-gain.ensures)
 
 pub returns : goal.returns
@@ -23,5 +23,5 @@ returns c =
     let a = c.args in
     let B = c.blend.ensures (λ x. x) (λ x r e. e) in
     c.sum_of-2.ensures
-    ∙ sum_is c.partial_terms-2.new.terms _ (quotient 0 1) a.x.m (round-fits binary32 false 0 1)
+    ∙ sum_is c.partial_terms-2.new.terms _ (quotient 0 1) a.x.m (omega arith) (round-fits binary32 false 0 1)
     (λ i h z f. partial-stored z _ _ _ _ _ _ _ _ f (c.partial_terms-2.ensures.at i h) (rw (ne_eqb _ _ c.if-x-eq0.false) (B.at i h)) c.term_gain-gain.ensures)
