@@ -17,7 +17,7 @@ use Rattle.player.specs.Phase.{advance_of, inverse_of, step_of}
 use Rattle.voice.specs.Input.{cleaned}
 use Rattle.voice.specs.Voice.{phase_ok, phases_ok}
 use Rattle.player.specs.Sound.{sides_at, step_at, partial_term, partial_sum, moved_phases}
-use Rattle.player.specs.inner.Passes.{EntriesFit, phases_at, partials_out}
+use Rattle.player.specs.inner.Passes.{EntriesFit, PartialsPlayed, phases_at, partials_out}
 use Rattle.player.specs.inner.Terms.{partial_added, sample_added}
 use Rattle.player.specs.inner.Tuning.{PitchAt, constants_at, entries_at}
 use Rattle.std.specs.Prelude.{Option, Some, None}
@@ -52,9 +52,14 @@ module _ (v : Voice) (freq : ℕ → Float) (g : ℕ → List Float) where
   unfolding partials_out
   partials-out-again i l ls y h e ey = ap (λ (z : Float). set ls i z) ey ∙ up_to-again (λ i. partial_sum v (cleaned (freq i)) (g i) (phases_at v freq i)) i l ls h e
 
-  pub partials-out-full : (i n : ℕ) (l ls ps : List Float) → i ≡ n → length l ≡ n → ls ≡ partials_out v freq g i ++ drop i l → ps ≡ phases_at v freq i → (ps ≡ phases_at v freq n) × (ls ≡ partials_out v freq g n)
+  -- LAW: and after the last turn the pass is played
+  pub partials-out-full : (i n : ℕ) (l ls ps : List Float) → i ≡ n → length l ≡ n → ls ≡ partials_out v freq g i ++ drop i l
+      → ps ≡ phases_at v freq i → PartialsPlayed v freq g n ps ls
   unfolding partials_out
-  partials-out-full i n l ls ps q h e p = (p ∙ ap (λ (z : ℕ). phases_at v freq z) q, up_to-full (λ i. partial_sum v (cleaned (freq i)) (g i) (phases_at v freq i)) i n l ls q h e)
+  partials-out-full i n l ls ps q h e p = record {
+    moves = p ∙ ap (λ (z : ℕ). phases_at v freq z) q;
+    written = up_to-full (λ i. partial_sum v (cleaned (freq i)) (g i) (phases_at v freq i)) i n l ls q h e;
+  }
 
 -- before sample i the phases are those of the definitions, and the columns are tuned to every frequency that compares equal to the one kept
 pub record PartialsAt (v : Voice) (freq : ℕ → Float) (i : ℕ) (phases : List Float) (t : Tuning) : Type 0 where

@@ -2,7 +2,7 @@
 // It starts from the state that it is lent, and leaves there the state at its end.
 ghost use Rattle.std.specs.Prelude.{length};
 ghost use Rattle.player.specs.inner.Passes.{VoiceFits, PartialsFit, FrequenciesFit, frequency_in, gains_in};
-ghost use Rattle.player.specs.inner.Passes.{toned, partials_of, PartialsPlayed, ChannelPlayed};
+ghost use Rattle.player.specs.inner.Passes.{toned, PlaysPartials, ChannelPlayed};
 
 use crate::bands::live_of;
 use crate::noise::pass::noise_pass;
@@ -14,8 +14,7 @@ use voice::{Inputs, State};
 // The partials: none, few, or so many that columns are worth while.
 fn all_partials<'a>(timbre: Timbre<'a>, phases: &mut [f32; 32], inputs: Inputs<'a>, out: &mut [f32])
     requires { PartialsFit timbre phases.old inputs }
-    ensures { PartialsPlayed (partials_of timbre.entry phases.old) (frequency_in inputs.entry) (gains_in inputs.entry)
-        (length out.old) phases.new out.new }
+    ensures { PlaysPartials timbre.entry inputs.entry phases.old out.old phases.new out.new }
 {
     if timbre.set.m == 0 {
         out.fill(0.0);

@@ -1,4 +1,6 @@
 // What a play only reads of a voice.
+// What sounds, the state, what it hears and where it is written are handed down side by side: a struct of them would hold slices lent to
+// be written on, and be taken apart at each step.
 use voice::{LISTS_PLACES, Setting};
 
 // The voice's numbers as it is played by them, its short lists and its coefficients, where they lie: all of it but the running state.

@@ -1,5 +1,6 @@
 // What a frequency decides: the steps and fades of the partials, and the coefficients between its two sides.
-// It is kept while the frequency stays.
+// It is kept while the frequency stays. The columns share m: slices would need a clause that their lengths agree. The rows are tables of 32
+// places a row, of which k rows of m places are in use, and no slice is just these.
 ghost use Rattle.std.specs.Prelude.{◌≡◌, true, ◌≤◌, ◌<◌, ◌+◌, get_or, Float};
 ghost use Rattle.std.specs.Float.{nan};
 ghost use Rattle.std.specs.Float.Ieee.{eq};

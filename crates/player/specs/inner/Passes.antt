@@ -1,6 +1,6 @@
 -- A channel in two passes: the partials of all its samples first, and then what the live bands add to each.
 -- Cited by private functions only: a sample's sum has the same order in both, and the state's parts move each by themselves.
-use Rattle.std.specs.Prelude.{ℕ, ◌≤◌, ◌≡◌, true, List, [], get_or, Float}
+use Rattle.std.specs.Prelude.{ℕ, ◌≤◌, ◌≡◌, true, List, [], get_or, length, Float}
 use Rattle.std.specs.Float.{nan}
 use Rattle.filters.specs.inner.Ranges.{Rate}
 use Rattle.voice.specs.Lists.{up_to, steps, every}
@@ -116,6 +116,11 @@ pub record LiveOf (s : Setting) (live : Live) : Type 0 where
 pub record PartialsPlayed (v : Voice) (freq : ℕ → Float) (g : ℕ → List Float) (n : ℕ) (phases out : List Float) : Type 0 where
   pub moves : phases ≡ phases_at v freq n
   pub written : out ≡ partials_out v freq g n
+
+-- the same of a timbre, the phases, the parts that are read and the samples, before (and after, with ') the pass
+abbrev pub PlaysPartials : Timbre → Inputs → List Float → List Float → List Float → List Float → Type 0
+PlaysPartials t parts phases out phases' out' =
+    PartialsPlayed (partials_of t phases) (frequency_in parts) (gains_in parts) (length out) phases' out'
 
 -- `ys` are the samples before the pass
 pub record NoisePlayed (v : Voice) (freq : ℕ → Float) (g : ℕ → List Float) (ys : List Float) (n : ℕ)

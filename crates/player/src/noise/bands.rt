@@ -1,4 +1,5 @@
 // The live bands of a voice as columns: place l belongs to live band l, that is to band `live.bands[l]`.
+// They share their count: slices would need a clause that their lengths agree.
 ghost use Rattle.std.specs.Prelude.{◌≡◌, ◌≤◌, ◌<◌, ◌+◌, ◌*◌, get_or};
 ghost use Rattle.std.specs.Float.{nan};
 ghost use Rattle.player.specs.inner.Columns.{LiveFits, Memories, Coeffs, Ticked, scattered, Filled};

@@ -1,4 +1,5 @@
-// The noise of a sample: the number that every live band hears, and what a band adds.
+// The noise of a sample: the number that every live band hears, and what a band adds. The columns share n: slices would need a clause that
+// their lengths agree. The two that are lent to be written on stand beside what is read, and no struct holds both.
 ghost use Rattle.std.specs.Prelude.{cond, ◌≡◌, ◌≤◌, ◌<◌, ◌+◌, ◌*◌, length, get_or, eqb};
 ghost use Rattle.std.specs.Float.{nan};
 ghost use Rattle.float.specs.F32.{◌⊕◌, ◌⊗◌};

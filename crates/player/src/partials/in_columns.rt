@@ -1,7 +1,6 @@
 // The partials of a channel's samples. What a frequency decides is worked out once while it stays; the partials of a sample are worked
 // out in columns, one step of all of them after the other. `terms` and `coeffs` are only worked in.
-ghost use Rattle.std.specs.Prelude.{length};
-ghost use Rattle.player.specs.inner.Passes.{PartialsFit, PartialsPlayed, frequency_in, gains_in, partials_of};
+ghost use Rattle.player.specs.inner.Passes.{PartialsFit, PlaysPartials};
 
 use crate::constants::Constants;
 use crate::input::{frequency_at, gains_at};
@@ -21,8 +20,7 @@ pub fn partials_in_columns<'a>(
     out: &mut [f32],
 )
     requires { PartialsFit timbre phases.old inputs }
-    ensures { PartialsPlayed (partials_of timbre.entry phases.old) (frequency_in inputs.entry) (gains_in inputs.entry)
-        (length out.old) phases.new out.new }
+    ensures { PlaysPartials timbre.entry inputs.entry phases.old out.old phases.new out.new }
 {
     let entries = Entries::of(timbre);
     let x = Constants::of(timbre.set);

@@ -1,6 +1,5 @@
 // The partials of a channel's samples where they are few: one after the other, with nothing laid out beforehand.
-ghost use Rattle.std.specs.Prelude.{length};
-ghost use Rattle.player.specs.inner.Passes.{PartialsFit, PartialsPlayed, frequency_in, gains_in, partials_of};
+ghost use Rattle.player.specs.inner.Passes.{PartialsFit, PlaysPartials};
 
 use crate::constants::Constants;
 use crate::input::{frequency_at, gains_for};
@@ -17,8 +16,7 @@ pub fn partials_one_by_one<'a>(
     out: &mut [f32],
 )
     requires { PartialsFit timbre phases.old inputs }
-    ensures { PartialsPlayed (partials_of timbre.entry phases.old) (frequency_in inputs.entry) (gains_in inputs.entry)
-        (length out.old) phases.new out.new }
+    ensures { PlaysPartials timbre.entry inputs.entry phases.old out.old phases.new out.new }
 {
     let entries = Entries::of(timbre);
     let x = Constants::of(timbre.set);

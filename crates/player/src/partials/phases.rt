@@ -1,4 +1,4 @@
-// The phases of a voice, each moved by its step.
+// The phases of a voice, each moved by its step. Phases and steps share m: slices would need a clause that their lengths agree.
 ghost use Rattle.std.specs.Prelude.{◌≡◌, true, ◌≤◌, get_or};
 ghost use Rattle.std.specs.Float.{nan};
 ghost use Rattle.std.specs.Float.Ieee.{le};

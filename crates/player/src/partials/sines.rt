@@ -1,6 +1,6 @@
 // S of a column of phases, in three loops: where each phase lies in the table, which line starts there, and the value on the line. Only the
 // second reads the table. The first compares floats and the second reads where the first says, so only the third can do several places
-// at once.
+// at once. The columns share m: slices would need a clause that their lengths agree.
 ghost use Rattle.std.specs.Prelude.{◌≡◌, ◌≤◌, length, get_or};
 ghost use Rattle.std.specs.Float.{nan};
 ghost use Rattle.player.specs.inner.Ranges.{AllPhases};

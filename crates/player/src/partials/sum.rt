@@ -1,4 +1,5 @@
-// The sum of the partials, of a single voice or of a blend.
+// The sum of the partials, of a single voice or of a blend. The columns share m: slices would need a clause that their lengths agree. The
+// two that are lent to be written on stand beside what is read, and no struct holds both.
 ghost use Rattle.std.specs.Prelude.{◌≡◌, ◌≤◌, ◌<◌, length, get_or};
 ghost use Rattle.std.specs.Float.{nan};
 ghost use Rattle.float.specs.F32.{◌⊗◌, quotient};

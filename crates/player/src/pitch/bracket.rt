@@ -16,7 +16,8 @@ pub enum Bracket {
     Between(usize, usize, f32),
 }
 
-// The two sides of a bracket: one entry stands on both, with t = 0.
+// The two sides of a bracket: one entry stands on both, with t = 0. That both are entries is asked where it is needed (`SidesIn`). As a
+// ghost field, which was tried, it could not be met by the definition `sides_of`, which has the sides of any bracket.
 #[derive(Clone, Copy)]
 pub struct Sides {
     pub lo: usize,

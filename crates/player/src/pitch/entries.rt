@@ -12,7 +12,8 @@ use crate::pitch::stretch::stretch_between;
 use crate::timbre::Timbre;
 use voice::{MAINLOBE_GAINS, NOISE_GAINS, PITCHES, STRETCHES, list_of};
 
-// What each of the first `count` entries has one of.
+// What each of the first `count` entries has one of. That they can be looked up is asked where it is needed (`EntriesIn`), beside what is
+// asked of the frequency: the definition `entries_at` has the entries of any setting, so it could not make them with a ghost field.
 #[derive(Clone, Copy)]
 pub struct Entries {
     pub count: usize,

@@ -57,5 +57,5 @@ loop-i-preserved c =
 pub returns : goal.returns
 returns c =
     let a = c.args in
-    let r = partials-out-full (partials_of a.timbre a.phases.now) (frequency_in a.inputs) (gains_in a.inputs) c.loop-i.i (length a.out.now) a.out.now c.loop-i.out c.loop-i.phases (omega arith) refl c.loop-i.invariant.0 c.loop-i.invariant.1.phases-are in
-    record { moves = r.0; written = r.1 }
+    partials-out-full (partials_of a.timbre a.phases.now) (frequency_in a.inputs) (gains_in a.inputs)
+    c.loop-i.i (length a.out.now) a.out.now c.loop-i.out c.loop-i.phases (omega arith) refl c.loop-i.invariant.0 c.loop-i.invariant.1.phases-are
