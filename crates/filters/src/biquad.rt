@@ -1,4 +1,5 @@
-// Second-order band-pass filters: coefficients, memories, one sample.
+// Second-order band-pass filters: coefficients, memories, one sample. (A centre, a q and a sample rate stand side by side, as in the
+// original's own functions: a struct of the three would be made for one call.)
 ghost use Rattle.std.specs.Prelude.{◌≡◌};
 ghost use Rattle.filters.specs.inner.Ranges.{Phase};
 ghost use Rattle.wave_table.specs.Wave.{Table};

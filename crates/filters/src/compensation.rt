@@ -1,4 +1,5 @@
-// The power that white noise has after a band, and what makes up for it.
+// The power that white noise has after a band, and what makes up for it. (The centre, the q and the rate are the original's own
+// arguments, which the public function keeps.)
 ghost use Rattle.std.specs.Prelude.{◌≡◌, ◌<◌, true};
 ghost use Rattle.filters.specs.Compensation.{ring_count, rung_power, rung, noise_power_gain, compensation_of};
 ghost use Rattle.filters.specs.inner.Quiet.{is_plus_zero, quiet};

@@ -1,4 +1,5 @@
-// Making a voice: questions 1 to 12, then the fresh voice.
+// Making a voice: questions 1 to 12, then the fresh voice. (The kind, the rate and the centres are arguments of the call itself,
+// which cross from C side by side: `question` and `fresh` are handed them as they came.)
 ghost use Rattle.std.specs.Prelude.{◌≡◌, ◌≤◌, length};
 ghost use Rattle.table.specs.Desk.{band_count};
 ghost use Rattle.making.specs.Making.{kind_number, kind_channel, fresh_voice, blank_voice, making, make_of};

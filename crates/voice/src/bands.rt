@@ -1,12 +1,12 @@
 // What `init` gives a voice: the coefficients of its bands and their compensations, for its own centres at a sample rate.
-ghost use Rattle.std.specs.Prelude.{◌≡◌, ◌*◌, ◌≤◌, min, ◌++◌, take, drop};
+ghost use Rattle.std.specs.Prelude.{◌≡◌, ◌*◌, ◌≤◌, ◌++◌, length, take, drop};
 ghost use Rattle.voice.specs.Bands.{band_floats, init_lists};
 ghost use Rattle.voice.specs.Limits.{max_bands, list_places};
 ghost use Rattle.voice.specs.Voice.{bands_at, compensations_list};
 ghost use Rattle.voice.specs.inner.BandArrays.{band_arrays};
 
 use crate::limits::MAX_BANDS;
-use crate::lists::{BANDS_AT, CENTRES, COMPENSATIONS, LISTS_PLACES, list_of, put_list};
+use crate::lists::{BANDS_AT, CENTRES, COMPENSATIONS, LISTS_PLACES, put_list, short_list};
 use filters::{BiquadCoeffs, init_band, zero_coeffs};
 
 // What each band has one of: two columns, since each is put among the lists in one go.
@@ -16,16 +16,16 @@ pub struct Bands {
     pub compensation: [f32; 16],
 }
 
-// Of the first n centres.
-fn init_bands(centres: [f32; 16], n: usize, sample_rate: f32) -> Bands
-    requires { n ≤ max_bands }
-    ensures { result ≡ band_arrays (take n centres) sample_rate }
+// Of these centres.
+fn init_bands(centres: &[f32], sample_rate: f32) -> Bands
+    requires { length centres.now ≤ max_bands }
+    ensures { result ≡ band_arrays centres.now sample_rate }
 {
     let zero = zero_coeffs();
     let mut coeffs = [zero; 16];
     let mut compensation = [0.0; 16];
-    for i in 0..n {
-        let band = init_band(centres[i], sample_rate);
+    for (i, centre) in centres.iter().enumerate() {
+        let band = init_band(*centre, sample_rate);
         coeffs[i] = band.coeffs;
         compensation[i] = band.compensation;
     }
@@ -50,8 +50,8 @@ fn put_bands(mut lists: [f32; LISTS_PLACES], bands: [BiquadCoeffs; 16]) -> [f32;
 pub fn init(lists: [f32; LISTS_PLACES], j: usize, sample_rate: f32) -> [f32; LISTS_PLACES]
     ensures { result ≡ init_lists lists j sample_rate }
 {
-    let centres = list_of(&lists, CENTRES);
-    let bands = init_bands(centres, j.min(MAX_BANDS), sample_rate);
+    let centres = &short_list(&lists, CENTRES)[..j.min(MAX_BANDS)];
+    let bands = init_bands(centres, sample_rate);
     let with_bands = put_bands(lists, bands.coeffs);
     put_list(with_bands, COMPENSATIONS, bands.compensation)
 }

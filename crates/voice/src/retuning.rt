@@ -10,8 +10,8 @@ use crate::voice::Voice;
 use filters::rate_ok;
 
 impl Voice {
-    // The rate, the bands and the compensations that `init` gives for the voice's own centres. The tone goes on. After a refusal the voice is
-    // as it was.
+    // The rate, the bands and the compensations that `init` gives for the voice's own centres. The tone goes on. After a refusal the voice
+    // is as it was.
     #[tactic(auto, unfolding(crate::specs::Question::ask, crate::specs::Retuning::retune_of, crate::specs::Retuning::rate_question))]
     pub fn retune(&mut self, sample_rate: f32) -> Result<(), CallError>
         ensures { record { number = call_number result; voice = self.new } ≡ retune_of self.old sample_rate }

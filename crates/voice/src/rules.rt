@@ -2,7 +2,8 @@
 ghost use Rattle.std.specs.Prelude.{◌≡◌, ℕ, ◌+◌, ◌-◌, ◌<◌, ◌≤◌, Bool, true, get_or, length};
 ghost use Rattle.voice.specs.Limits.{max_entries, max_partials, max_bands};
 ghost use Rattle.voice.specs.Lists.{every};
-ghost use Rattle.voice.specs.Voice.{counts_ok, entries_ok, live_ok, centres_finite, phases_ok, phase_ok, pitch_ok, stretch_ok, rules_of, keeps_rules};
+ghost use Rattle.voice.specs.Voice.{counts_ok, entries_ok, live_ok, centres_finite, phases_ok, phase_ok, pitch_ok, stretch_ok};
+ghost use Rattle.voice.specs.Voice.{rules_of, keeps_rules};
 
 use crate::limits::{MAX_BANDS, MAX_BLENDED, MAX_ENTRIES, MAX_HZ, MAX_PARTIALS};
 use crate::lists::{CENTRES, LISTS_PLACES, PITCHES, STRETCHES, band_of, short_list};
@@ -27,8 +28,8 @@ pub fn stretch_ok(s: f32) -> bool
     0.0 <= s && s <= 4.0
 }
 
-// Whether each item passes the test. All are asked, whatever the first ones answer: by the library's `all` and `is_sorted`, which stop at the
-// first no, the rules of a full voice took a quarter longer.
+// Whether each item passes the test. All are asked, whatever the first ones answer: by the library's `all` and `is_sorted`, which stop at
+// the first no, the rules of a full voice took a quarter longer.
 pub(crate) fn all_of<T: Copy + Drop, F: Fn(T) -> bool>(xs: &[T], test: F) -> bool
     requires { F.IsAlwaysCallable test }
     ensures { (p : T → Bool) (d : T)
@@ -70,7 +71,8 @@ fn counts_ok(set: Setting) -> bool
         && set.live_count <= MAX_BANDS
 }
 
-// The pitches and stretches of the first n entries.
+// The pitches and stretches of the first n entries. (By a count, here and of the phases: a voice, which crosses to C, has arrays and
+// counts, and the rules are told by them. What is in use is a slice from the first line on.)
 fn entries_ok(lists: &[f32; LISTS_PLACES], n: usize) -> bool
     requires { n ≤ max_entries }
     ensures { result ≡ entries_ok lists.now n }
