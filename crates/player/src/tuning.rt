@@ -10,8 +10,8 @@ ghost use Rattle.player.specs.Fade.{nyquist_fade};
 ghost use Rattle.player.specs.inner.Ranges.{SidesIn};
 ghost use Rattle.player.specs.inner.Columns.{LiveFits, Filled, FilledRows};
 ghost use Rattle.player.specs.Sound.{partial_row, noise_row};
-ghost use Rattle.player.specs.inner.Tuning.{EntriesIn, Tuned, NoiseTuned};
-ghost use Rattle.voice.specs.Limits.{max_entries, max_partials, max_blended, max_hz};
+ghost use Rattle.player.specs.inner.Tuning.{PitchFits, Tuned, NoiseTuned};
+ghost use Rattle.voice.specs.Limits.{max_entries, max_partials, max_blended};
 
 use crate::bands::Live;
 use crate::columns::{all_up_to, fill_rows};
@@ -113,7 +113,7 @@ impl Tuning {
 
     // The columns for the frequency f0.
     pub fn tune(&mut self, f0: f32, x: Constants, entries: &Entries, partials: &[f32; 2048])
-        requires entries_in { EntriesIn entries.now × Within max_hz 1 f0 }
+        requires entries_in { PitchFits entries.now f0 }
         requires counts_in { (x.m ≤ max_partials) × (x.k ≤ max_blended) × Within 1 4096 x.inv }
         requires kept { (was : Float) → self.old.f0 ≡ Some was → eq f0 was ≡ true → Tuned x entries.now partials.now f0 self.old }
         ensures { Tuned x entries.now partials.now f0 self.new }
@@ -151,7 +151,7 @@ impl NoiseTuning {
         noise: &[f32; 1024],
         live: &Live,
     )
-        requires entries_in { EntriesIn entries.now × Within max_hz 1 f0 }
+        requires entries_in { PitchFits entries.now f0 }
         requires counts_in { (x.k ≤ max_blended) × LiveFits live.now }
         requires kept { (was : Float) → self.old.f0 ≡ Some was → eq f0 was ≡ true
             → NoiseTuned x entries.now noise.now live.now f0 self.old }

@@ -5,7 +5,7 @@ use Rattle.std.specs.Float.Ieee.{le}
 use Rattle.float.specs.F32.{◌⊗◌, quotient}
 use Rattle.float.specs.inner.Range.{Within}
 use Rattle.voice.specs.Lists.{every}
-use Rattle.voice.specs.Limits.{max_entries}
+use Rattle.voice.specs.Limits.{max_entries, max_hz}
 use Rattle.voice.specs.Voice.{list_at, pitches_list, stretches_list, mainlobes_list, noise_gains_list, pitch_ok, stretch_ok}
 use Rattle.voice.specs.declared.voice.Setting.{Setting}
 use Rattle.player.specs.Phase.{inverse_of, partial_freq, step_of}
@@ -41,6 +41,10 @@ pub record EntriesIn (e : Entries) : Type 0 where
   pub most : e.count ≤ max_entries
   pub pitches-ok : every (λ i. pitch_ok (get_or e.f0_hz i nan)) e.count ≡ true
   pub stretches-ok : every (λ i. stretch_ok (get_or e.stretch i nan)) e.count ≡ true
+
+-- and a frequency that can be looked up among them
+abbrev pub PitchFits : Entries → Float → Type 0
+PitchFits e f0 = EntriesIn e × Within max_hz 1 f0
 
 -- the sides of a frequency among entries
 abbrev pub sides_in : Entries → Float → Sides

@@ -2,9 +2,8 @@
 ghost use Rattle.std.specs.Prelude.{◌≡◌, true};
 ghost use Rattle.std.specs.Float.Ieee.{eq};
 ghost use Rattle.float.specs.inner.Range.{Within};
-ghost use Rattle.voice.specs.Limits.{max_hz};
 ghost use Rattle.player.specs.Bracket.{bracket_of, sides_of};
-ghost use Rattle.player.specs.inner.Tuning.{EntriesIn, PitchAt, entries_at, sides_in};
+ghost use Rattle.player.specs.inner.Tuning.{PitchFits, PitchAt, entries_at, sides_in};
 ghost use Rattle.player.specs.inner.Ranges.{SidesIn};
 
 use crate::pitch::bracket::{Bracket, Sides, both_sides, last_not_above, share, value_between};
@@ -12,7 +11,7 @@ use crate::pitch::stretch::stretch_between;
 use crate::timbre::Timbre;
 use voice::{MAINLOBE_GAINS, NOISE_GAINS, PITCHES, STRETCHES, list_of};
 
-// What each of the first `count` entries has one of. That they can be looked up is asked where it is needed (`EntriesIn`), beside what is
+// What each of the first `count` entries has one of. That they can be looked up is asked where it is needed (`PitchFits`), with what is
 // asked of the frequency: the definition `entries_at` has the entries of any setting, so it could not make them with a ghost field.
 #[derive(Clone, Copy)]
 pub struct Entries {
@@ -47,7 +46,7 @@ impl Entries {
 
     // Between which of them f0 lies.
     fn bracket_at(&self, f0: f32) -> Bracket
-        requires { EntriesIn self.now × Within max_hz 1 f0 }
+        requires { PitchFits self.now f0 }
         ensures value { result ≡ bracket_of self.now.f0_hz self.now.count f0 }
         ensures inside { SidesIn self.now.count (sides_of result) × Within 1 1 (sides_of result).t }
     {
@@ -67,7 +66,7 @@ impl Entries {
 
     // The sides of f0 among the entries.
     pub fn sides_at(&self, f0: f32) -> Sides
-        requires { EntriesIn self.now × Within max_hz 1 f0 }
+        requires { PitchFits self.now f0 }
         ensures value { result ≡ sides_in self.now f0 }
         ensures inside { SidesIn self.now.count result × Within 1 1 result.t }
     {
@@ -75,7 +74,7 @@ impl Entries {
     }
 
     pub fn pitch_at(&self, f0: f32) -> Pitch
-        requires { EntriesIn self.now × Within max_hz 1 f0 }
+        requires { PitchFits self.now f0 }
         ensures { PitchAt self.now f0 result }
     {
         let s = self.sides_at(f0);
@@ -89,7 +88,7 @@ impl Entries {
 
     // The same while the frequency stays.
     pub fn pitch_kept(&self, was: Option<Pitch>, f0: f32) -> Pitch
-        requires entries_in { EntriesIn self.now × Within max_hz 1 f0 }
+        requires entries_in { PitchFits self.now f0 }
         requires kept { (p : Pitch) → was ≡ Some p → eq f0 p.f0 ≡ true → PitchAt self.now f0 p }
         ensures { PitchAt self.now f0 result }
     {
