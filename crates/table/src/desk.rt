@@ -9,6 +9,7 @@ ghost use Rattle.table.specs.Desk.{bands_of, band_count, value_or, first_value, 
 use crate::accepted::table_header;
 use crate::entry::{EntryView, entry_at, has_channel, metadata_value};
 use crate::error::CoeffTableCodecError;
+use crate::start::Start;
 use wire::cursor::Cursor;
 
 // A voice's kind: one channel of the table, or the blend of its channels.
@@ -43,13 +44,13 @@ pub fn bands_of(kind: Kind, v: EntryView) -> u32
     }
 }
 
-// The largest band count among the n entries at a cursor.
-fn bands_among(s: &[u8], c: Cursor, n: usize, kind: Kind) -> u32
-    ensures { result ≡ band_count kind (entry_list n s.now c.at) }
+// The largest band count among the entries from a start on.
+fn bands_among(s: &[u8], start: Start, kind: Kind) -> u32
+    ensures { result ≡ band_count kind (entry_list start.count s.now start.at) }
 {
-    let mut d = c;
+    let mut d = Cursor { at: start.at };
     let mut best: u32 = 0;
-    for i in 0..n {
+    for i in 0..start.count {
         let Ok(v) = entry_at(s, d, i) else {
             return best;
         };
@@ -59,26 +60,26 @@ fn bands_among(s: &[u8], c: Cursor, n: usize, kind: Kind) -> u32
     best
 }
 
-// A key's value in the first of the n entries at a cursor, or another number.
-fn first_value(s: &[u8], c: Cursor, n: usize, key: &[u8], other: u32) -> u32
-    ensures { result ≡ first_value key.now other (entry_list n s.now c.at) }
+// A key's value in the first of the entries from a start on, or another number.
+fn first_value(s: &[u8], start: Start, key: &[u8], other: u32) -> u32
+    ensures { result ≡ first_value key.now other (entry_list start.count s.now start.at) }
 {
-    if n == 0 {
+    if start.count == 0 {
         return other;
     }
-    match entry_at(s, c, 0) {
+    match entry_at(s, Cursor { at: start.at }, 0) {
         Ok(v) => metadata_value(s, v, key).unwrap_or(other),
         Err(_) => other,
     }
 }
 
-// The desk's values of the n entries at a cursor.
-fn desk_at(s: &[u8], c: Cursor, n: usize, kind: Kind) -> Desk
-    ensures { result ≡ desk_of kind (entry_list n s.now c.at) }
+// The desk's values of the entries from a start on.
+fn desk_at(s: &[u8], start: Start, kind: Kind) -> Desk
+    ensures { result ≡ desk_of kind (entry_list start.count s.now start.at) }
 {
-    let bands = bands_among(s, c, n, kind);
-    let min_hz = first_value(s, c, n, b"noise_band_min_hz", 0x42A00000);
-    let max_hz = first_value(s, c, n, b"noise_band_max_hz", 0x463B8000);
+    let bands = bands_among(s, start, kind);
+    let min_hz = first_value(s, start, b"noise_band_min_hz", 0x42A00000);
+    let max_hz = first_value(s, start, b"noise_band_max_hz", 0x463B8000);
     Desk {
         bands,
         min_hz,
@@ -91,5 +92,5 @@ pub fn for_voice(image: &[u8], kind: Kind) -> Result<Desk, CoeffTableCodecError>
     ensures { desk_answer result ≡ desk_outcome kind (decode image.now) }
 {
     let h = table_header(image)?;
-    Ok(desk_at(image, Cursor { at: h.end }, h.count as usize, kind))
+    Ok(desk_at(image, h.entries, kind))
 }

@@ -6,16 +6,15 @@ ghost use Rattle.table.specs.inner.Header.{version, version_parsed, NamePlaced};
 
 use crate::bytes::part_of;
 use crate::error::CoeffTableCodecError;
+use crate::start::Start;
 use wire::cursor::{Cursor, Place, Read};
 use wire::reader::string_from;
 
-// The entries start at `end`.
 #[derive(Clone, Copy)]
 pub struct HeaderView {
     pub version: u16,
     pub name: Place,
-    pub count: u32,
-    pub end: usize,
+    pub entries: Start,
 }
 
 // The mark and the version: questions 3 and 4.
@@ -45,7 +44,9 @@ pub fn header_at(s: &[u8]) -> Result<HeaderView, CoeffTableCodecError>
     Ok(HeaderView {
         version: version.value,
         name: name.value,
-        count: count.value,
-        end: count.next.at,
+        entries: Start {
+            count: count.value as usize,
+            at: count.next.at,
+        },
     })
 }

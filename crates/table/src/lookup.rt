@@ -6,14 +6,15 @@ ghost use Rattle.table.specs.Lookup.{view_from, view_of_index, found_view};
 
 use crate::accepted::table_header;
 use crate::entry::{EntryView, entry_at};
+use crate::start::Start;
 use wire::cursor::Cursor;
 
-// The entry with an index among the n at a cursor.
-fn entry_among(s: &[u8], c: Cursor, n: usize, index: usize) -> Option<EntryView>
-    ensures { found_view result ≡ view_from c.at (entry_list n s.now c.at) index }
+// The entry with an index among those from a start on.
+fn entry_among(s: &[u8], start: Start, index: usize) -> Option<EntryView>
+    ensures { found_view result ≡ view_from start.at (entry_list start.count s.now start.at) index }
 {
-    let mut d = c;
-    for i in 0..n {
+    let mut d = Cursor { at: start.at };
+    for i in 0..start.count {
         let Ok(v) = entry_at(s, d, i) else {
             return None;
         };
@@ -31,7 +32,7 @@ pub fn entry(image: &[u8], index: usize) -> Option<EntryView>
     ensures { found_view result ≡ view_of_index (decode image.now) index }
 {
     match table_header(image) {
-        Ok(h) => entry_among(image, Cursor { at: h.end }, h.count as usize, index),
+        Ok(h) => entry_among(image, h.entries, index),
         Err(_) => None,
     }
 }

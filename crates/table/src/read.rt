@@ -14,6 +14,7 @@ use crate::error::CoeffTableCodecError;
 use crate::header::header_at;
 use crate::limits::MAX_IMAGE;
 use crate::span::{Baseline, conclude, judge, span_of};
+use crate::start::Start;
 use wire::cursor::Cursor;
 
 // How many entries a table has, and where the last one ends in its image.
@@ -23,18 +24,18 @@ pub struct Counts {
     pub end: usize,
 }
 
-// The n entries at a cursor, and question 7 of all. The loop ends at the first entry that is not there, however large n is.
-fn entries_at(s: &[u8], c: Cursor, n: usize) -> Result<Counts, CoeffTableCodecError>
-    ensures { reading_parsed result ≡ answer_from Baseline.Start 0 (entries n s.now c.at) }
+// The entries from a start on, and question 7 of all. The loop ends at the first entry that is not there, however many are said to be.
+fn entries_at(s: &[u8], start: Start) -> Result<Counts, CoeffTableCodecError>
+    ensures { reading_parsed result ≡ answer_from Baseline.Start 0 (entries start.count s.now start.at) }
 {
-    let mut d = c;
+    let mut d = Cursor { at: start.at };
     let mut j = Baseline::Start;
-    for i in 0..n {
+    for i in 0..start.count {
         let v = entry_at(s, d, i)?;
         j = judge(j, i, span_of(s, v, true));
         d = Cursor { at: v.end };
     }
-    conclude(j, n, d.at)
+    conclude(j, start.count, d.at)
 }
 
 // Reads a whole image.
@@ -45,7 +46,7 @@ pub fn from_bytes(image: &[u8]) -> Result<Counts, CoeffTableCodecError>
         return Err(CoeffTableCodecError::TooLong);
     }
     let h = header_at(image)?;
-    entries_at(image, Cursor { at: h.end }, h.count as usize)
+    entries_at(image, h.entries)
 }
 
 // Where the table's name starts in the image; 0 where the image is refused.

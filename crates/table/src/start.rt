@@ -16,10 +16,7 @@ pub fn entries_start(image: &[u8]) -> Start
     ensures { result ≡ start_of (decode image.now) }
 {
     match table_header(image) {
-        Ok(h) => Start {
-            count: h.count as usize,
-            at: h.end,
-        },
+        Ok(h) => h.entries,
         Err(_) => Start { count: 0, at: 0 },
     }
 }

@@ -12,6 +12,7 @@ use crate::header::header_at;
 use crate::limits::{MAX_IMAGE, MAX_VIEWS};
 use crate::read::Counts;
 use crate::span::{Baseline, conclude, judge, span_of};
+use crate::start::Start;
 use wire::cursor::Cursor;
 
 // What `from_bytes` answers to an accepted image, and a view of each of its first 16 entries; past the last, of nothing.
@@ -28,16 +29,16 @@ pub fn no_view() -> EntryView
     EntryView::default()
 }
 
-// The n entries at a cursor, and question 7 of all, as `entries_at` reads them; the views of the first 16 are kept. The loop stands twice:
+// The entries from a start on, and question 7 of all, as `entries_at` reads them; the views of the first 16 are kept. The loop stands twice:
 // one over what it keeps would need a trait with laws, and a reading that keeps nothing would fill 16 views.
-fn views_at(s: &[u8], c: Cursor, n: usize) -> Result<Views, CoeffTableCodecError>
-    ensures reading { views_parsed result ≡ answer_from Baseline.Start 0 (entries n s.now c.at) }
-    ensures views { IfOk result (λ v. v.views ≡ views_from max_views c.at (entry_list n s.now c.at)) }
+fn views_at(s: &[u8], start: Start) -> Result<Views, CoeffTableCodecError>
+    ensures reading { views_parsed result ≡ answer_from Baseline.Start 0 (entries start.count s.now start.at) }
+    ensures views { IfOk result (λ v. v.views ≡ views_from max_views start.at (entry_list start.count s.now start.at)) }
 {
     let mut views = [no_view(); MAX_VIEWS];
-    let mut d = c;
+    let mut d = Cursor { at: start.at };
     let mut j = Baseline::Start;
-    for i in 0..n {
+    for i in 0..start.count {
         let v = entry_at(s, d, i)?;
         j = judge(j, i, span_of(s, v, true));
         d = Cursor { at: v.end };
@@ -45,7 +46,7 @@ fn views_at(s: &[u8], c: Cursor, n: usize) -> Result<Views, CoeffTableCodecError
             views[i] = v;
         }
     }
-    let counts = conclude(j, n, d.at)?;
+    let counts = conclude(j, start.count, d.at)?;
     Ok(Views { counts, views })
 }
 
@@ -57,5 +58,5 @@ pub fn views_of(image: &[u8]) -> Result<Views, CoeffTableCodecError>
         return Err(CoeffTableCodecError::TooLong);
     }
     let h = header_at(image)?;
-    views_at(image, Cursor { at: h.end }, h.count as usize)
+    views_at(image, h.entries)
 }

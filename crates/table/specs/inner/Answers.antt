@@ -45,5 +45,5 @@ skips (refused r) = refused r
 
 -- a header, and where it ends
 abbrev pub header_parsed : List ℕ → Result HeaderView CoeffTableCodecError → Parsed Header
-header_parsed s (Ok h) = ok (record { version = h.version; name = part s h.name.start h.name.len; count = h.count }) h.end
+header_parsed s (Ok h) = ok (record { version = h.version; name = part s h.name.start h.name.len; count = h.entries.count }) h.entries.at
 header_parsed s (Err e) = refused (refusal_of e)

@@ -7,4 +7,4 @@ use Rattle.table.specs.Desk.{band_count}
 use Rattle.table.proofs.desk.bands_among.Given as goal
 
 abbrev pub invariant-loop-i : goal.invariant-loop-i
-invariant-loop-i l = max l.best (band_count l.kind (standing entry l.i (l.n - l.i) l.s l.d.at)) ≡ band_count l.kind (entry_list l.n l.s l.initial.d.at)
+invariant-loop-i l = max l.best (band_count l.kind (standing entry l.i (l.fn.start.count - l.i) l.s l.d.at)) ≡ band_count l.kind (entry_list l.fn.start.count l.s l.fn.start.at)

@@ -13,11 +13,11 @@ returns-in_default c =
 
 pub returns-then-i-index : goal.returns-then-i-index
 returns-then-i-index c =
-    ap some c.in-Ok.ensures.placed ∙ sym (view-here c.args.s.now c.loop-i.i c.args.n _ _ _ c.loop-i-test.true (sym c.in-Ok.ensures.means) c.args.index (omega arith)) ∙ c.loop-i.invariant.1
+    ap some c.in-Ok.ensures.placed ∙ sym (view-here c.args.s.now c.loop-i.i c.args.start.count _ _ _ c.loop-i-test.true (sym c.in-Ok.ensures.means) c.args.index (omega arith)) ∙ c.loop-i.invariant.1
 
 pub loop-i-preserved : goal.loop-i-preserved
 loop-i-preserved c =
-    (omega arith, sym (view-go c.args.s.now c.loop-i.i c.args.n _ _ _ c.loop-i-test.true (sym c.in-Ok.ensures.means) c.args.index (omega arith)) ∙ c.loop-i.invariant.1)
+    (omega arith, sym (view-go c.args.s.now c.loop-i.i c.args.start.count _ _ _ c.loop-i-test.true (sym c.in-Ok.ensures.means) c.args.index (omega arith)) ∙ c.loop-i.invariant.1)
 
 pub returns : goal.returns
 returns c =

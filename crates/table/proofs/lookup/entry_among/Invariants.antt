@@ -7,4 +7,4 @@ use Rattle.table.specs.Lookup.{view_from}
 use Rattle.table.proofs.lookup.entry_among.Given as goal
 
 abbrev pub invariant-loop-i : goal.invariant-loop-i
-invariant-loop-i l = (l.i ≤ l.index) × (view_from l.d.at (standing entry l.i (l.n - l.i) l.s l.d.at) (l.index - l.i) ≡ view_from l.initial.d.at (entry_list l.n l.s l.initial.d.at) l.index)
+invariant-loop-i l = (l.i ≤ l.index) × (view_from l.d.at (standing entry l.i (l.fn.start.count - l.i) l.s l.d.at) (l.index - l.i) ≡ view_from l.fn.start.at (entry_list l.fn.start.count l.s l.fn.start.at) l.index)

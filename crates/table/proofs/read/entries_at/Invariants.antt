@@ -7,4 +7,4 @@ use Rattle.table.specs.inner.Baseline.{answer_from}
 use Rattle.table.proofs.read.entries_at.Given as goal
 
 abbrev pub invariant-loop-i : goal.invariant-loop-i
-invariant-loop-i l = answer_from l.j l.i (many entry l.i (l.n - l.i) l.s l.d.at) ≡ answer_from Baseline.Start 0 (entries l.n l.s l.initial.d.at)
+invariant-loop-i l = answer_from l.j l.i (many entry l.i (l.fn.start.count - l.i) l.s l.d.at) ≡ answer_from Baseline.Start 0 (entries l.fn.start.count l.s l.fn.start.at)

@@ -12,5 +12,5 @@ use Rattle.table.proofs.views.views_at.Given as goal
 
 abbrev pub invariant-loop-i : goal.invariant-loop-i
 invariant-loop-i l =
-    (answer_from l.j l.i (many entry l.i (l.n - l.i) l.s l.d.at) ≡ answer_from Baseline.Start 0 (entries l.n l.s l.initial.d.at)) × (length l.views ≡ 16)
-    × (put_views l.views l.i l.d.at (standing entry l.i (l.n - l.i) l.s l.d.at) ≡ views_from 16 l.initial.d.at (entry_list l.n l.s l.initial.d.at))
+    (answer_from l.j l.i (many entry l.i (l.fn.start.count - l.i) l.s l.d.at) ≡ answer_from Baseline.Start 0 (entries l.fn.start.count l.s l.fn.start.at)) × (length l.views ≡ 16)
+    × (put_views l.views l.i l.d.at (standing entry l.i (l.fn.start.count - l.i) l.s l.d.at) ≡ views_from 16 l.fn.start.at (entry_list l.fn.start.count l.s l.fn.start.at))
