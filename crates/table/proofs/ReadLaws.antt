@@ -1,12 +1,12 @@
 -- Laws of a whole image: its answer, and what an accepted one holds. Assumes nothing.
-use Prim.Native.Nat.{ℕ, ◌≤◌, ◌<◌}
+use Prim.Native.Nat.{ℕ}
 use mathlib.Core.Path.{◌≡◌, refl, ap, sym, ◌∙◌}
 use mathlib.Core.List.{List}
+use mathlib.Core.Bool.{Bool, true, false, cond}
 use native.Mathlib.Omega.{arith}
 use native.Mathlib.Nat.{zero-add}
 use lib.ListN.{length}
 use lib.Dec.{leb}
-use borrow.Author.Tests.{le-leb, lt-leb}
 use Rattle.wire.specs.Parse.{Refusal, refusal, Parsed, ok, refused, asked, then}
 use Rattle.wire.proofs.Many.{many-stand, went, asked-ok}
 use Rattle.table.specs.declared.span.Baseline.{Baseline}
@@ -16,6 +16,7 @@ use Rattle.table.specs.Span.{Verdict, agreed, broken, consistent, ruled}
 use Rattle.table.specs.inner.Baseline.{verdict_from, concluded, answer_from}
 use Rattle.table.specs.Decode.{decode}
 use Rattle.table.specs.inner.Entry.{entry_list}
+use Rattle.table.specs.inner.Header.{head}
 use Rattle.table.specs.Answer.{counts}
 
 abbrev table_from : Header → List PitchEntry → CoeffTable
@@ -33,17 +34,31 @@ counts-entries h (ok es at) =
     ∙ ap (λ (n : ℕ). concluded (consistent es) n at) (sym (zero-add (length es)))
 counts-entries h (refused r) = refl
 
-pub read-long : (s : List ℕ) → 65536 < length s → decode s ≡ refused (refusal 1 0 0)
-unfolding decode
-read-long s h = rw (lt-leb (length s) 65536 h) refl
+-- by what a reading begins with
+pub read_no : (s : List ℕ) (r : Refusal) → head s ≡ refused r → decode s ≡ refused r
+unfolding head decode
+read_no s r h = go (leb (length s) 65536) refl h
+  where
+    go : (b : Bool) → leb (length s) 65536 ≡ b → cond b (header s 0) (refused (refusal 1 0 0)) ≡ refused r → decode s ≡ refused r
+    go true e g = rw (e, g) refl
+    go false e g = let z : refusal 1 0 0 ≡ r = cc in rw e (ap refused z)
 
-pub read_no : (s : List ℕ) (r : Refusal) → length s ≤ 65536 → header s 0 ≡ refused r → decode s ≡ refused r
-unfolding decode
-read_no s r h g = rw (le-leb (length s) 65536 h, g) refl
+head-is : (s : List ℕ) (d : Header) (at : ℕ) → head s ≡ ok d at → (leb (length s) 65536 ≡ true) × (header s 0 ≡ ok d at)
+unfolding head
+head-is s d at h = go (leb (length s) 65536) refl h
+  where
+    go : (b : Bool) → leb (length s) 65536 ≡ b → cond b (header s 0) (refused (refusal 1 0 0)) ≡ ok d at → (leb (length s) 65536 ≡ true) × (header s 0 ≡ ok d at)
+    go true e g = (e, g)
+    go false e g = let z : ◌≡◌ {A = ℕ} 0 1 = cc in absurd (omega arith)
 
-pub read-go : (s : List ℕ) (d : Header) (at : ℕ) → length s ≤ 65536 → header s 0 ≡ ok d at → counts (decode s) ≡ answer_from Baseline.Start 0 (entries d.count s at)
+pub head-header : (s : List ℕ) (d : Header) (at : ℕ) → head s ≡ ok d at → header s 0 ≡ ok d at
+head-header s d at h = (head-is s d at h).1
+
+pub read-go : (s : List ℕ) (d : Header) (at : ℕ) → head s ≡ ok d at → counts (decode s) ≡ answer_from Baseline.Start 0 (entries d.count s at)
 unfolding decode
-read-go s d at h g = rw (le-leb (length s) 65536 h, g) (counts-entries d (entries d.count s at))
+read-go s d at h =
+    let w = head-is s d at h in
+    rw (w.0, w.1) (counts-entries d (entries d.count s at))
 
 -- ---- what an accepted image holds: the header's fields, and the entries that stand after it
 abbrev pub table_of : List ℕ → Header → ℕ → CoeffTable

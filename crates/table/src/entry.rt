@@ -171,5 +171,5 @@ pub fn coefficient(s: &[u8], v: EntryView, channel: u32, column: u32) -> u32
 pub fn metadata_value(s: &[u8], v: EntryView, key: &[u8]) -> Option<u32>
     ensures { found_bits result ≡ metadata_value key.now (entry_at s.now v).metadata }
 {
-    find(s, Cursor { at: v.pairs_at }, v.pairs, key, false)
+    find(s, v, key, false)
 }

@@ -3,11 +3,12 @@ ghost use Rattle.std.specs.Prelude.{◌≡◌, true};
 ghost use Rattle.wire.specs.Parse.{many};
 ghost use Rattle.table.specs.Table.{metadata_value};
 ghost use Rattle.table.specs.Image.{pair, pairs};
-ghost use Rattle.table.specs.View.{pair_list};
+ghost use Rattle.table.specs.View.{entry_at};
 ghost use Rattle.table.specs.Answer.{found_bits};
 ghost use Rattle.table.specs.inner.Answers.{reads, pair_parsed, skipped_parsed, skips};
 
 use crate::bytes::part_of;
+use crate::entry::EntryView;
 use crate::error::CoeffTableCodecError;
 use wire::cursor::{Cursor, Place, Read};
 
@@ -56,7 +57,7 @@ fn pair_again(s: &[u8], c: Cursor) -> Result<Read<PairView>, CoeffTableCodecErro
     })
 }
 
-// The same for any pair; `known` says that one was read there before. It stays a bool: a closure in its place would need two clauses on
+// Either of the two (each of the three promises the one thing that a pair is); `known` says that one was read there before. It stays a bool: a closure in its place would need two clauses on
 // itself at each of its three callers.
 fn pair_by(s: &[u8], c: Cursor, known: bool) -> Result<Read<PairView>, CoeffTableCodecError>
     requires { known ≡ true → reads (pair s.now c.at) ≡ true }
@@ -81,13 +82,13 @@ pub fn skip_pairs(s: &[u8], c: Cursor, n: u32) -> Result<Cursor, CoeffTableCodec
     Ok(d)
 }
 
-// The value of a key among the n pairs at a cursor, as bits: of equal keys the first counts. `known` says that they were read before.
-pub fn find(s: &[u8], c: Cursor, n: u32, key: &[u8], known: bool) -> Option<u32>
-    requires { known ≡ true → reads (pairs n s.now c.at) ≡ true }
-    ensures { found_bits result ≡ metadata_value key.now (pair_list n s.now c.at) }
+// The value of a key among an entry's pairs, as bits: of equal keys the first counts. `known` says that they were read before.
+pub fn find(s: &[u8], v: EntryView, key: &[u8], known: bool) -> Option<u32>
+    requires { known ≡ true → reads (pairs v.pairs s.now v.pairs_at) ≡ true }
+    ensures { found_bits result ≡ metadata_value key.now (entry_at s.now v).metadata }
 {
-    let mut d = c;
-    for i in 0..n {
+    let mut d = Cursor { at: v.pairs_at };
+    for i in 0..v.pairs {
         let Ok(pair) = pair_by(s, d, known) else {
             return None;
         };

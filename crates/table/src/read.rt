@@ -5,13 +5,15 @@ ghost use Rattle.table.specs.Image.{entries};
 ghost use Rattle.table.specs.Decode.{decode, name_of};
 ghost use Rattle.table.specs.Name.{StartsAt, name_start};
 ghost use Rattle.table.specs.Answer.{reading_parsed, counts};
+ghost use Rattle.table.specs.inner.Answers.{header_parsed};
 ghost use Rattle.table.specs.inner.Baseline.{answer_from};
+ghost use Rattle.table.specs.inner.Header.{head};
 
 use crate::accepted::table_header;
 use crate::bytes::part_of;
 use crate::entry::entry_at;
 use crate::error::CoeffTableCodecError;
-use crate::header::header_at;
+use crate::header::{HeaderView, header_at};
 use crate::limits::MAX_IMAGE;
 use crate::span::{Baseline, conclude, judge, span_of};
 use crate::start::Start;
@@ -38,14 +40,22 @@ fn entries_at(s: &[u8], start: Start) -> Result<Counts, CoeffTableCodecError>
     conclude(j, start.count, d.at)
 }
 
-// Reads a whole image.
-pub fn from_bytes(image: &[u8]) -> Result<Counts, CoeffTableCodecError>
-    ensures { reading_parsed result ≡ counts (decode image.now) }
+// What a reading begins with: question 1, and the header.
+#[tactic(auto, using(std::proofs::lemmas::Bool::Decides::nat_tests), unfolding(crate::specs::inner::Header::head))]
+pub fn head_at(image: &[u8]) -> Result<HeaderView, CoeffTableCodecError>
+    ensures { header_parsed image.now result ≡ head image.now }
 {
     if MAX_IMAGE < image.len() {
         return Err(CoeffTableCodecError::TooLong);
     }
-    let h = header_at(image)?;
+    header_at(image)
+}
+
+// Reads a whole image.
+pub fn from_bytes(image: &[u8]) -> Result<Counts, CoeffTableCodecError>
+    ensures { reading_parsed result ≡ counts (decode image.now) }
+{
+    let h = head_at(image)?;
     entries_at(image, h.entries)
 }
 

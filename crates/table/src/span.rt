@@ -12,7 +12,6 @@ use crate::error::CoeffTableCodecError;
 use crate::metadata::find;
 use crate::read::Counts;
 use std::num::f32_from_bits_with_nan;
-use wire::cursor::Cursor;
 
 // The two keys of the span in one entry, with the values' bits. A lone key is a third kind beside a pair and none, so this is no Option.
 #[derive(Clone, Copy)]
@@ -46,9 +45,8 @@ pub fn span_of(s: &[u8], v: EntryView, known: bool) -> Span
     requires { known ≡ true → reads (pairs v.pairs s.now v.pairs_at) ≡ true }
     ensures { result ≡ span_of (entry_at s.now v) }
 {
-    let c = Cursor { at: v.pairs_at };
-    let low = find(s, c, v.pairs, b"noise_band_min_hz", known);
-    let high = find(s, c, v.pairs, b"noise_band_max_hz", known);
+    let low = find(s, v, b"noise_band_min_hz", known);
+    let high = find(s, v, b"noise_band_max_hz", known);
     span_from(low, high)
 }
 

@@ -8,9 +8,8 @@ ghost use Rattle.table.specs.inner.Baseline.{answer_from};
 
 use crate::entry::{EntryView, entry_at};
 use crate::error::CoeffTableCodecError;
-use crate::header::header_at;
-use crate::limits::{MAX_IMAGE, MAX_VIEWS};
-use crate::read::Counts;
+use crate::limits::MAX_VIEWS;
+use crate::read::{Counts, head_at};
 use crate::span::{Baseline, conclude, judge, span_of};
 use crate::start::Start;
 use wire::cursor::Cursor;
@@ -54,9 +53,6 @@ fn views_at(s: &[u8], start: Start) -> Result<Views, CoeffTableCodecError>
 pub fn views_of(image: &[u8]) -> Result<Views, CoeffTableCodecError>
     ensures { ViewsRead image.now result }
 {
-    if MAX_IMAGE < image.len() {
-        return Err(CoeffTableCodecError::TooLong);
-    }
-    let h = header_at(image)?;
+    let h = head_at(image)?;
     views_at(image, h.entries)
 }

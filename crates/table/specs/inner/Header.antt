@@ -1,6 +1,6 @@
 -- A header in the parts that the code reads by themselves: mark and version, then name and entry count. Where a part starts.
 -- Cited by private functions only.
-use Rattle.std.specs.Prelude.{cond, ℕ, ◌≡◌, List, leb, Result, Ok, Err}
+use Rattle.std.specs.Prelude.{cond, ℕ, ◌≡◌, List, length, leb, Result, Ok, Err}
 use Rattle.wire.specs.declared.cursor.Read.{Read}
 use Rattle.wire.specs.Parse.{refusal, Parsed, ok, refused, Parser, pure, ◌>>=◌, ◌>>◌, require}
 use Rattle.wire.specs.Cursor.{take_at, u16, u32}
@@ -9,6 +9,7 @@ use Rattle.table.specs.declared.header.HeaderView.{HeaderView}
 use Rattle.table.specs.Table.{CoeffTable, same}
 use Rattle.table.specs.Image.{bytes_at, text, magic, Header, header}
 use Rattle.table.specs.Answer.{refusal_of}
+use Rattle.table.specs.Decode.{max_image}
 
 unfoldable pub version : Parser ℕ
 version = do
@@ -29,6 +30,10 @@ header_by = do
 abbrev pub version_parsed : Result (Read ℕ) CoeffTableCodecError → Parsed ℕ
 version_parsed (Ok v) = ok v.value v.next.at
 version_parsed (Err e) = refused (refusal_of e)
+
+-- what a reading begins with: question 1, and the header
+unfoldable pub head : List ℕ → Parsed Header
+head s = cond (leb (length s) max_image) (header s 0) (refused (refusal 1 0 0))
 
 -- the name of a header starts at byte 10
 abbrev pub NamePlaced : Result HeaderView CoeffTableCodecError → Type 0

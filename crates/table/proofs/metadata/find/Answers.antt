@@ -9,7 +9,7 @@ use Rattle.table.proofs.metadata.find.Goals as goal
 
 pub pair_by-requires : goal.pair_by-requires
 pair_by-requires c =
-    λ k. next-read (λ i. pair) c.args.s.now c.loop-i.i c.args.n c.loop-i.d.at c.loop-i-test.true (c.loop-i.invariant.1 k) (λ a next g more. ap reads g)
+    λ k. next-read (λ i. pair) c.args.s.now c.loop-i.i c.args.v.pairs c.loop-i.d.at c.loop-i-test.true (c.loop-i.invariant.1 k) (λ a next g more. ap reads g)
 
 pub returns-in_default : goal.returns-in_default
 unfolding metadata_value
@@ -23,7 +23,7 @@ returns-then-eq c =
 pub loop-i-preserved : goal.loop-i-preserved
 loop-i-preserved c =
     let g = sym c.in-Ok.ensures in
-    (sym (find-go _ _ _ _ _ _ _ c.loop-i-test.true g (part-same c.args.s.now _ _ c.args.key.now _ _ _ c.part_of.ensures.bytes refl c.eq.ensures ∙ c.if-eq.false)) ∙ c.loop-i.invariant.0, λ k. then-read (λ i. pair) c.args.s.now c.loop-i.i c.args.n c.loop-i.d.at c.loop-i-test.true (c.loop-i.invariant.1 k) _ _ g)
+    (sym (find-go _ _ _ _ _ _ _ c.loop-i-test.true g (part-same c.args.s.now _ _ c.args.key.now _ _ _ c.part_of.ensures.bytes refl c.eq.ensures ∙ c.if-eq.false)) ∙ c.loop-i.invariant.0, λ k. then-read (λ i. pair) c.args.s.now c.loop-i.i c.args.v.pairs c.loop-i.d.at c.loop-i-test.true (c.loop-i.invariant.1 k) _ _ g)
 
 pub returns : goal.returns
 unfolding metadata_value

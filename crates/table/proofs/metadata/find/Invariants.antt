@@ -10,5 +10,5 @@ use Rattle.table.proofs.metadata.find.Given as goal
 
 abbrev pub invariant-loop-i : goal.invariant-loop-i
 invariant-loop-i l =
-    (metadata_value l.key (standing (λ i'. pair) l.i (l.n - l.i) l.s l.d.at) ≡ metadata_value l.key (pair_list l.n l.s l.initial.d.at))
-    × (l.known ≡ true → reads (many (λ i'. pair) l.i (l.n - l.i) l.s l.d.at) ≡ true)
+    (metadata_value l.key (standing (λ i'. pair) l.i (l.fn.v.pairs - l.i) l.s l.d.at) ≡ metadata_value l.key (pair_list l.fn.v.pairs l.s l.fn.v.pairs_at))
+    × (l.known ≡ true → reads (many (λ i'. pair) l.i (l.fn.v.pairs - l.i) l.s l.d.at) ≡ true)
