@@ -6,12 +6,10 @@ use native.Mathlib.Omega.{arith}
 use lib.ListN.{length, take, set, replicate, length-append}
 use lib.Dec.{leb}
 use lib.Seq.{set-append_seam, set_out}
-use Rattle.wire.specs.Parse.{refusal, ok, asked, then, many, standing}
-use Rattle.wire.proofs.Many.{went, asked-ok, many-length, stand-go, stand-end}
-use Rattle.std.specs.Prelude.{map, Result, Ok, Err, IfOk}
+use Rattle.wire.specs.Parse.{Refusal, refusal, ok, refused, asked, then, many, standing}
+use Rattle.wire.proofs.Many.{went, asked-ok, many-length, stand-go, stand-no, stand-end}
+use Rattle.std.specs.Prelude.{map}
 use Rattle.table.specs.declared.entry.EntryView.{EntryView}
-use Rattle.table.specs.declared.error.CoeffTableCodecError.{CoeffTableCodecError}
-use Rattle.table.specs.declared.views.Views.{Views}
 use Rattle.table.specs.Table.{CoeffTable, PitchEntry}
 use Rattle.table.specs.Size.{entry_size}
 use Rattle.table.specs.Image.{Header, header, entry, entries}
@@ -19,17 +17,14 @@ use Rattle.table.specs.Span.{consistent, ruled}
 use Rattle.table.specs.Decode.{decode}
 use Rattle.table.specs.View.{entry_at, view_of}
 use Rattle.table.specs.inner.Entry.{entry_list}
-use Rattle.table.specs.Views.{no_view, views_from, views_of, views_parsed}
+use Rattle.table.specs.inner.Views.{put_views}
+use Rattle.table.specs.Views.{no_view, views_from, views_of}
 use Rattle.table.specs.Answer.{counts}
 use Rattle.table.proofs.SizeLaws.{entry-is, entry-end}
 use Rattle.table.proofs.HeaderLaws.{header-end}
 use Rattle.table.proofs.ReadLaws.{read_table}
 
--- ---- the loop: entries put into a list of views one after the other, from place i on; past the list's end none is kept
-unfoldable pub put_views : List EntryView → ℕ → ℕ → List PitchEntry → List EntryView
-put_views views i at [] = views
-put_views views i at (e ∷ es) = put_views (set views i (view_of at e)) (i + 1) (at + entry_size e) es
-
+-- ---- the loop that keeps them
 put-past : (views : List EntryView) (i at : ℕ) (es : List PitchEntry) → length views ≤ i → put_views views i at es ≡ views
 unfolding put_views
 put-past views i at [] h = refl
@@ -63,6 +58,10 @@ module _ (s : List ℕ) (views : List EntryView) (i n at : ℕ) where
       ∙ ap (λ (x : ℕ). put_views (set views i (view_of at (entry_at s v))) (i + 1) x rest) (sym (entry-end i s at next (entry_at s v) g))
       ∙ ap (λ (w : EntryView). put_views (set views i w) (i + 1) next rest) (sym p)
 
+  pub put-no : (r : Refusal) → i < n → entry i s at ≡ refused r → put_views views i at (standing entry i (n - i) s at) ≡ views
+  unfolding put_views
+  put-no r h g = rw (stand-no entry s i n at r h g) refl
+
   pub put-end : n ≤ i → put_views views i at (standing entry i (n - i) s at) ≡ views
   unfolding put_views
   put-end h = rw (stand-end entry s i n at h) refl
@@ -71,11 +70,6 @@ module _ (s : List ℕ) (views : List EntryView) (i n at : ℕ) where
 pub kept-are : (s : List ℕ) (d : Header) (at n e : ℕ) → header s 0 ≡ ok d at → counts (decode s) ≡ ok n e
     → views_from 16 at (entry_list d.count s at) ≡ views_of (decode s)
 kept-are s d at n e g h = rw (read_table s d at n e h g, ← header-end s at d g) refl
-
-pub kept-all : (s : List ℕ) (d : Header) (at : ℕ) (r : Result Views CoeffTableCodecError) → header s 0 ≡ ok d at → views_parsed r ≡ counts (decode s)
-    → IfOk r (λ v. v.views ≡ views_from 16 at (entry_list d.count s at)) → IfOk r (λ v. v.views ≡ views_of (decode s))
-kept-all s d at (Ok v) g h k = k ∙ kept-are s d at _ _ g (sym h)
-kept-all s d at (Err e) g h k = tt
 
 -- LAW: the views of an accepted image of at most 16 entries lead to its entries
 lead-back : (s : List ℕ) (n i k at e : ℕ) (es : List PitchEntry) → n ≤ k → many entry i n s at ≡ ok es e → map (entry_at s) (take n (views_from k at es)) ≡ es

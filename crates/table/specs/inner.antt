@@ -3,3 +3,4 @@ pub mod Answers
 pub mod Baseline
 pub mod Entry
 pub mod Header
+pub mod Views

@@ -2,10 +2,11 @@
 ghost use Rattle.std.specs.Prelude.{◌≡◌};
 ghost use Rattle.table.specs.Image.{header};
 ghost use Rattle.table.specs.inner.Answers.{header_parsed};
-ghost use Rattle.table.specs.inner.Header.{version, version_parsed, NamePlaced};
+ghost use Rattle.table.specs.inner.Header.{version, version_parsed, NamePlaced, head};
 
 use crate::bytes::part_of;
 use crate::error::CoeffTableCodecError;
+use crate::limits::MAX_IMAGE;
 use crate::start::Start;
 use wire::cursor::{Cursor, Place, Read};
 use wire::reader::string_from;
@@ -49,4 +50,15 @@ pub fn header_at(s: &[u8]) -> Result<HeaderView, CoeffTableCodecError>
             at: count.next.at,
         },
     })
+}
+
+// What a reading begins with: question 1, and the header.
+#[tactic(auto, using(std::proofs::lemmas::Bool::Decides::nat_tests), unfolding(crate::specs::inner::Header::head))]
+pub fn head_at(image: &[u8]) -> Result<HeaderView, CoeffTableCodecError>
+    ensures { header_parsed image.now result ≡ head image.now }
+{
+    if MAX_IMAGE < image.len() {
+        return Err(CoeffTableCodecError::TooLong);
+    }
+    header_at(image)
 }

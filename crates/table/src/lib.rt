@@ -4,6 +4,7 @@
 mod accepted;
 mod bytes;
 pub mod desk;
+mod entries;
 pub mod entry;
 pub mod error;
 mod header;

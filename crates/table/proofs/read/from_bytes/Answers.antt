@@ -11,4 +11,4 @@ returns-in_err-h c =
 
 pub returns : goal.returns
 returns c =
-    c.entries_at.ensures ∙ sym (read-go _ _ _ (sym c.in_ok-h.ensures))
+    c.entries_at.ensures.reading ∙ sym (read-go _ _ _ (sym c.in_ok-h.ensures))

@@ -1,0 +1,39 @@
+// The entries of an image, read one after the other. (Three loops of the crate go on by `d`, where the last entry ended: an iterator would hold
+// it, but this one needs each index and the end of the last entry too, and would keep both beside it.)
+ghost use Rattle.std.specs.Prelude.{◌≡◌};
+ghost use Rattle.table.specs.declared.span.Baseline.{Baseline};
+ghost use Rattle.table.specs.Image.{entries};
+ghost use Rattle.table.specs.Answer.{reading_parsed};
+ghost use Rattle.table.specs.inner.Baseline.{answer_from};
+ghost use Rattle.table.specs.inner.Entry.{entry_list};
+ghost use Rattle.table.specs.inner.Views.{put_views};
+
+use crate::entry::{EntryView, entry_at};
+use crate::error::CoeffTableCodecError;
+use crate::read::Counts;
+use crate::span::{Baseline, conclude, judge, span_of};
+use crate::start::Start;
+use wire::cursor::Cursor;
+
+// The entries from a start on, and question 7 of all; their views are kept as far as there is room. The loop ends at the first entry that
+// is not there, however many are said to be.
+pub fn entries_at(
+    s: &[u8],
+    start: Start,
+    views: &mut [EntryView],
+) -> Result<Counts, CoeffTableCodecError>
+    ensures reading { reading_parsed result ≡ answer_from Baseline.Start 0 (entries start.count s.now start.at) }
+    ensures kept { views.new ≡ put_views views.old 0 start.at (entry_list start.count s.now start.at) }
+{
+    let mut d = Cursor { at: start.at };
+    let mut j = Baseline::Start;
+    for i in 0..start.count {
+        let v = entry_at(s, d, i)?;
+        j = judge(j, i, span_of(s, v, true));
+        d = Cursor { at: v.end };
+        if i < views.len() {
+            views[i] = v;
+        }
+    }
+    conclude(j, start.count, d.at)
+}
