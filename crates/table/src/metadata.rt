@@ -57,8 +57,8 @@ fn pair_again(s: &[u8], c: Cursor) -> Result<Read<PairView>, CoeffTableCodecErro
     })
 }
 
-// Either of the two (each of the three promises the one thing that a pair is); `known` says that one was read there before. It stays a bool: a closure in its place would need two clauses on
-// itself at each of its three callers.
+// Either of the two, which promise the one thing that a pair is; `known` says that one was read there before. It stays a bool: a closure
+// in its place would need two clauses on itself at each of its three callers.
 fn pair_by(s: &[u8], c: Cursor, known: bool) -> Result<Read<PairView>, CoeffTableCodecError>
     requires { known ≡ true → reads (pair s.now c.at) ≡ true }
     ensures { pair_parsed s.now result ≡ pair s.now c.at }
