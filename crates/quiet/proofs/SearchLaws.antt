@@ -1,16 +1,6 @@
 -- Laws about the first window that passes a test.
-use denote.Ref.{Bor}
-use denote.Param.Members.{Mut}
-use Rattle.std.proofs.lemmas.Fn.{fronts}
-use Rattle.std.specs.Iterator.{YieldsThen}
-use Rattle.std.specs.Fn.{Called}
-use Rattle.std.specs.Slice.Iter.{iter_rest}
-use Rattle.std.specs.Option.{MatchOption}
-use Rattle.std.specs.List.{FoldsTo}
-use Rattle.std.proofs.Common.{Option, ◌≡◌, ℕ, ◌<◌, ◌≤◌, Bool, true, false, not, List, length, get_or, Some, None, refl, ◌∙◌, arith}
+use Rattle.std.proofs.Common.{◌≡◌, ℕ, ◌<◌, ◌≤◌, Bool, true, false, not, List, length, get_or, Some, None, refl, ◌∙◌, arith}
 use Rattle.std.specs.List.{position, position_or_len}
-use Rattle.std.proofs.lemmas.Iterator.{YieldsList-from_slice}
-use Rattle.std.proofs.lemmas.Iterator.Search.{position_from_yields_List}
 use Rattle.std.proofs.lemmas.Bool.Decides.{nat_tests}
 use Rattle.std.proofs.lemmas.List.Recursion.{is_position_or_len}
 use Rattle.std.proofs.lemmas.List.Sums.{position_or_len_is, fails_before_first, prefix_len-le-length}
@@ -24,14 +14,6 @@ first-is-position test l = is_position_or_len (first_where test) test refl (λ v
 
 pub first-at-most : (test : Window → Bool) (l : List Window) → first_where test l ≤ length l
 first-at-most test l = rw first-is-position (prefix_len-le-length (λ v. not (test v)) l)
-
--- what the library's search of windows answers, where its closure answers a test's answer of each
-module _ {F : Type 0} {g : Mut F (Bor Window × Unit {0}) Bool} {s u : _} {f : F} {r : Option ℕ} (vs : List Window) (test : Window → Bool) where
-  pub found :
-      (xs : List (Bor Window)) × (o : Option (Bor Window)) × (j : F) × YieldsThen fronts s xs o u × FoldsTo (λ p x q. Called g p (x, tt) false q) f xs j
-      × MatchOption o (r ≡ None) (λ x. (r ≡ Some (length xs)) × ((h : F) × Called g j (x, tt) true h))
-      → iter_rest s ≡ vs → ((x : Bor Window) (b : Bool) (q : F) → Called g f (x, tt) b q → (q ≡ f) × (b ≡ test x.now)) → r ≡ position test vs
-  found ran e each = position_from_yields_List test _ _ _ ran (YieldsList-from_slice vs e) each
 
 -- what is found
 pub first_found :

@@ -1,5 +1,7 @@
 // The gain of a minute by a plan, or the question that the plan or the minute does not pass.
-ghost use Rattle.std.specs.Prelude.{◌≡◌};
+ghost use Rattle.std.specs.Prelude.{◌≡◌, not};
+ghost use Rattle.std.specs.List.{position};
+ghost use Rattle.quiet.specs.Window.{edges_ok, step_ok, holds};
 ghost use Rattle.quiet.specs.Plan.{windows_answer, quiet_gain};
 
 use crate::answer::{Gain, PlanError};
@@ -7,21 +9,42 @@ use crate::limits::{MAX_WINDOWS, WEEK_MINUTES};
 use crate::plan::{Plan, Window};
 use crate::window::step_gain;
 
+// The first window with an edge that is no minute of the week.
+fn first_bad_edge(windows: &[Window]) -> Option<usize>
+    ensures { result ≡ position (λ v. not (edges_ok v)) windows.now }
+{
+    windows.iter().position(|v| !v.edges_ok())
+}
+
+// The first whose step is above 100.
+fn first_bad_step(windows: &[Window]) -> Option<usize>
+    ensures { result ≡ position (λ v. not (step_ok v)) windows.now }
+{
+    windows.iter().position(|v| !v.step_ok())
+}
+
+// The first that holds the minute.
+fn first_holding(windows: &[Window], minute: u32) -> Option<usize>
+    ensures { result ≡ position (holds minute) windows.now }
+{
+    windows.iter().position(|v| v.holds(minute))
+}
+
 // The questions of the edges, of the steps and of the minute, each of all windows before the next; then the first window that holds the
 // minute gives its gain. The windows are looked through three times at most, whatever they hold.
 fn windows_gain(windows: &[Window], minute: u32) -> Result<Gain, PlanError>
     ensures { result ≡ windows_answer windows.now minute }
 {
-    if let Some(window) = windows.iter().position(|v| !v.edges_ok()) {
+    if let Some(window) = first_bad_edge(windows) {
         return Err(PlanError::BadWindow(window));
     }
-    if let Some(window) = windows.iter().position(|v| !v.step_ok()) {
+    if let Some(window) = first_bad_step(windows) {
         return Err(PlanError::BadStep(window));
     }
     if WEEK_MINUTES <= minute {
         return Err(PlanError::BadMinute);
     }
-    match windows.iter().position(|v| v.holds(minute)) {
+    match first_holding(windows, minute) {
         Some(window) => Ok(Gain {
             window,
             gain: step_gain(windows[window].step),
