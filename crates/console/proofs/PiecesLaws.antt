@@ -1,50 +1,63 @@
--- Lines that are taken in turn, each with its number. Assumes nothing.
-use Rattle.std.proofs.Common.{◌≡◌, ℕ, suc, ◌<◌, ◌≤◌, List, [], ◌∷◌, ◌++◌, length, get_or, drop, Result, Ok, Err, sym, refl, ap, ◌∙◌, zero-add, arith, drop_of_length-le, drop-cons, length-append}
-use Rattle.std.specs.List.{enumerate_from}
-use Rattle.std.proofs.lemmas.List.FromFn.{length-enumerate_from, get_or-enumerate_from}
+-- Pieces that are taken in turn by `try_fold`, where the first that is wrong stays. Assumes nothing.
+use Rattle.std.proofs.Common.{◌≡◌, ℕ, suc, ◌+◌, List, [], ◌∷◌, Option, Some, None, Result, Ok, Err, sym, refl, ap, subst, ◌∙◌, arith}
+use Rattle.std.specs.List.{fold, FoldsTo, enumerate_from}
+use Rattle.std.specs.Fn.{Mut, Called}
+use Rattle.std.specs.Option.{MatchOption}
+use Rattle.std.specs.Result.{IsErr, IsErrAnd, result_from_control_flow}
+use Rattle.std.specs.Iterator.{AlwaysYields, Yields, TryFoldsItems}
+use Rattle.std.proofs.lemmas.Iterator.{YieldsList}
+use Rattle.std.proofs.lemmas.Result.{err_from_is_err_and}
 use Rattle.console.specs.Pieces.{after_lines}
 
--- the line that comes after k others has the number k
-numbered : {X : Type 0} (xs : List X) (k n : ℕ) (x : X) →
-    (k < length (enumerate_from 0 xs)) × ((n, x) ≡ get_or (enumerate_from 0 xs) k (n, x)) →
-    (k < length xs) × (n ≡ k) × (x ≡ get_or xs k x)
-numbered xs k n x turn =
-    let l : k < length xs = omega (arith, length-enumerate_from 0 xs, turn.0) in
-    let e = turn.1 ∙ get_or-enumerate_from 0 xs k (n, x) l in
-    (l, ap (λ (p : ℕ × _). p.0) e ∙ zero-add k, ap (λ (p : ℕ × _). p.1) e)
+-- `after` is what a piece makes of what those before it came to. A turn R goes on from p, which is f and what has been come to; q is where
+-- the turns ended, and there all pieces are taken, W, or x is wrong, L x.
+module _ {S A B C E F : Type 0} (steps : S → Option A → S → Type 0) (v : A → C) (after : Result B E → C → Result B E)
+    (stays : (e : E) (y : C) → after (Err e) y ≡ Err e) (f : F) (R : F × B → A → F × B → Type 0)
+    (goes : (p q : F × B) (x : A) → p.0 ≡ f → R p x q → (q.0 ≡ f) × (Ok q.1 ≡ after (Ok p.1) (v x)))
+    (r : Result B E) (q : F × B) (W : Type 0) (L : A → Type 0) (whole : W → r ≡ Ok q.1)
+    (wrong : (x : A) → q.0 ≡ f → L x → (e : E) × (r ≡ Err e) × (Err e ≡ after (Ok q.1) (v x))) (u : S) where
+  wrong-stays : (e : E) (ys : List C) → fold after (Err e) ys ≡ Err e
+  wrong-stays e [] = refl
+  wrong-stays e (y ∷ ys) = rw (stays e y) (wrong-stays e ys)
 
--- What lines do of which the first that is wrong stays.
-module _ {B E : Type 0} (after : Result B E → ℕ → List ℕ → Result B E)
-    (stays : (e : E) (n : ℕ) (l : List ℕ) → after (Err e) n l ≡ Err e) where
-  wrong-stays : (e : E) (n : ℕ) (ls : List (List ℕ)) → after_lines after (Err e) n ls ≡ Err e
-  unfolding after_lines
-  wrong-stays e n [] = refl
-  wrong-stays e n (l ∷ ls) = rw (stays e n l) (wrong-stays e (suc n) ls)
+  at_end : (o : Option A) (ys : List C) (t : S) → q.0 ≡ f → AlwaysYields steps v t ys → steps t o u → MatchOption o W L → r ≡ fold after (Ok q.1) ys
+  at_end None [] t k a s d = whole d
+  at_end None (y ∷ ys) t k a s d = absurd (a.0 u s)
+  at_end (Some x) [] t k a s d = absurd (a x u s)
+  at_end (Some x) (y ∷ ys) t k a s d =
+      let w = wrong x k d in
+      let e : after (Ok q.1) y ≡ Err w.0 = ap (after (Ok q.1)) (sym (a.1 x u s).0) ∙ sym w.2 in
+      rw e (w.1 ∙ sym (wrong-stays w.0 ys))
 
-  -- b is what those that have been taken came to
-  module _ {A : Type 0} (b : B) (ls : List (List ℕ)) (taken : List A) where
-    -- what those to come make of it
-    abbrev to_come : Result B E
-    to_come = after_lines after (Ok b) (length taken) (drop (length taken) ls)
+  pub turns : (xs : List A) (ys : List C) (o : Option A) (s t : S) (p : F × B) → p.0 ≡ f → AlwaysYields steps v s ys → Yields steps s xs t →
+      FoldsTo R p xs q → steps t o u → MatchOption o W L → r ≡ fold after (Ok p.1) ys
+  turns [] ys o s t p k a y c l d = rw c (at_end o ys t (rw (← c) k) (rw (← y) a) l d)
+  turns (x ∷ xs) [] o s t p k a y c l d = absurd (a x y.0 y.1)
+  turns (x ∷ xs) (z ∷ ys) o s t p k a y c l d =
+      let n = a.1 x y.0 y.1 in
+      let m = goes p c.0 x k c.1 in
+      let e : after (Ok p.1) z ≡ Ok c.0.1 = ap (after (Ok p.1)) (sym n.0) ∙ sym m.1 in
+      rw e (turns xs ys o y.0 t c.0 m.0 n.1 y.2 c.2 l d)
 
-    -- the next is the line with n above it
-    module _ (n : ℕ) (line : List ℕ)
-        (turn : (length taken < length (enumerate_from 0 ls)) × ((n, line) ≡ get_or (enumerate_from 0 ls) (length taken) (n, line))) where
-      line-taken : after_lines after (after (Ok b) n line) (suc (length taken)) (drop (suc (length taken)) ls) ≡ to_come
-      unfolding after_lines
-      line-taken =
-          let at = numbered ls (length taken) n line turn in
-          rw (drop-cons ls (length taken) line at.0, ← at.2, at.1)
+-- what `try_fold` gives where each call of f gives what `after` makes of it
+pub pieces_folded : {S A B C E F : Type 0} {steps : S → Option A → S → Type 0} {v : A → C} {s : S} {ys : List C} {f : F} {init : B} {r : Result B E} (u : S)
+    (g : Mut F (B × (A × Unit {0})) (Result B E)) (after : Result B E → C → Result B E) → ((e : E) (y : C) → after (Err e) y ≡ Err e) →
+    ((b : B) (x : A) (w : Result B E) (h : F) → Called g f (b, (x, tt)) w h → (h ≡ f) × (w ≡ after (Ok b) (v x))) →
+    TryFoldsItems steps g (λ w c. w ≡ result_from_control_flow c) (λ e w. IsErr w × IsErrAnd w (λ y. y ≡ e.0)) s f init r u →
+    YieldsList steps v s ys → r ≡ fold after (Ok init) ys
+pieces_folded {steps = steps} {v} {s} {ys} {f} {init} {r} u g after stays gives d e =
+    turns steps v after stays f _
+    (λ p q x k t. let m = gives p.1 x t.0 q.0 (subst (λ i. Called g i (p.1, (x, tt)) t.0 q.0) k t.1) in (m.0, sym t.2 ∙ m.1))
+    r (d.2, d.3) _ _ (λ w. w)
+    (λ x k t.
+    let m = gives d.3 x t.0 t.1 (subst (λ i. Called g i (d.3, (x, tt)) t.0 t.1) k t.3) in
+    let w = err_from_is_err_and r t.5.1 in
+    (t.2.0, w.1 ∙ ap Err w.2, sym t.4 ∙ m.1))
+    u d.0 ys d.1 s d.4.0 (f, init) refl e.runs d.4.1 d.5 d.4.2 d.6
 
-      pub line-next : (c : B) (y : A) → Ok c ≡ after (Ok b) n line →
-          after_lines after (Ok c) (length (taken ++ (y ∷ []))) (drop (length (taken ++ (y ∷ []))) ls) ≡ to_come
-      line-next c y e =
-          let k : length (taken ++ (y ∷ [])) ≡ suc (length taken) = omega (arith, length-append taken (y ∷ [])) in
-          rw (k, e) line-taken
-
-      pub line-wrong : (e : E) → Err e ≡ after (Ok b) n line → Err e ≡ to_come
-      line-wrong e f = sym (rw (← line-taken, ← f) (wrong-stays e (suc (length taken)) (drop (suc (length taken)) ls)))
-
-    pub lines-end : length taken ≡ length (enumerate_from 0 ls) → Ok b ≡ to_come
-    unfolding after_lines
-    lines-end e = let h : length ls ≤ length taken = omega (arith, e, length-enumerate_from 0 ls) in rw drop_of_length-le
+-- what numbered lines come to in turn
+pub lines_folded : {X : Type 0} (after : X → ℕ → List ℕ → X) (a : X) (n : ℕ) (ls : List (List ℕ)) →
+    fold (λ b (p : ℕ × List ℕ). after b p.0 p.1) a (enumerate_from n ls) ≡ after_lines after a n ls
+unfolding after_lines
+lines_folded after a n [] = refl
+lines_folded after a n (l ∷ ls) = let e : n + 1 ≡ suc n = omega arith in rw e (lines_folded after (after a n l) (suc n) ls)

@@ -1,4 +1,5 @@
-// The words of the command line, by their number; word 0 is the program's name.
+// The words of the command line, by their number; word 0 is the program's name. (rt, i, buf) is how the library is asked for one, by
+// `rt.arg(i, buf)`: a struct of the three would be made for each call and taken apart in it, which is no plainer.
 ghost use Rattle.std.specs.Prelude.{◌≤◌, IfSome};
 ghost use Rattle.io.specs.Counts.{IsPrefixLen};
 

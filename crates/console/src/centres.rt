@@ -89,11 +89,10 @@ impl Centres {
 pub fn read(text: &[u8]) -> Result<Centres, CentresError>
     ensures { result ≡ centres_of text.now }
 {
-    let mut centres = Centres::none();
-    for (above, line) in text.split(|b| *b == b'\n').enumerate() {
-        centres = centres.with_line(above, line)?;
-    }
-    Ok(centres)
+    text.split(|b| *b == b'\n').enumerate().try_fold(
+        Centres::none(),
+        |centres, (above, line)| centres.with_line(above, line),
+    )
 }
 
 // The centres in the file that an argument names; none where there is no such argument. No contract can say what a file holds, so this one

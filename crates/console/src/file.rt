@@ -31,7 +31,7 @@ pub fn read<R: Files>(rt: &R, path: &[u8], buf: &mut [u8]) -> Result<usize, Fail
     read_all(&mut file, buf).map_err(|e| say::failed(path, e))
 }
 
-// Reads the file that an argument names, as `read` does.
+// Reads the file that an argument names, as `read` does. (The same three parameters as `arguments::read`, for the reason said there.)
 pub fn read_argument<R: Files + Env>(rt: &R, i: usize, buf: &mut [u8]) -> Result<usize, Failed>
     ensures { HasRead result buf.new }
 {

@@ -19,3 +19,7 @@ pub mod words;
 // What was to be done is not done, and why has been said on standard error.
 #[derive(Clone, Copy, Debug, PartialEq, Eq)]
 pub struct Failed;
+
+// A program was called wrongly, and why has been said on standard error.
+#[derive(Clone, Copy, Debug, PartialEq, Eq)]
+pub struct WrongUse;

@@ -133,11 +133,8 @@ impl Line {
 fn line_of(line: &[u8]) -> Result<Line, Reason>
     ensures { result ≡ line_of line.now }
 {
-    let mut l = Line::Empty;
-    for w in line.split(|b| is_blank(*b)) {
-        l = l.after_word(w)?;
-    }
-    Ok(l)
+    line.split(|b| is_blank(*b))
+        .try_fold(Line::Empty, |l, w| l.after_word(w))
 }
 
 // A plan with a window more; of a sixty-fifth only the count is kept.
@@ -206,11 +203,10 @@ impl Planned {
 pub fn read(text: &[u8]) -> Result<Planned, BadLine>
     ensures { result ≡ plan_of text.now }
 {
-    let mut planned = Planned::new();
-    for (above, line) in text.split(|b| *b == b'\n').enumerate() {
-        planned = planned.with_line(above, line)?;
-    }
-    Ok(planned)
+    text.split(|b| *b == b'\n').enumerate().try_fold(
+        Planned::new(),
+        |planned, (above, line)| planned.with_line(above, line),
+    )
 }
 
 // The minute of the week that a text names, as an edge of a window does.

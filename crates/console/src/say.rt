@@ -3,7 +3,7 @@
 ghost use Rattle.std.specs.Prelude.{◌≡◌};
 
 use crate::fixed::magnitude;
-use crate::{Failed, arguments, reason};
+use crate::{Failed, WrongUse, arguments, reason};
 use std::fmt;
 use std::fmt::{Display, Write};
 use std::io::{Error, Print};
@@ -37,6 +37,19 @@ pub fn number(fd: i32, n: u64) {
 pub fn counted(fd: i32, n: u64, one: &[u8], many: &[u8]) {
     number(fd, n);
     text(fd, if n == 1 { one } else { many });
+}
+
+// What is wrong with an argument of a program, on standard error.
+pub fn wrong(program: &[u8], word: &[u8], why: &[u8]) -> WrongUse
+    ensures { result ≡ record {} }
+{
+    text(2, program);
+    text(2, b": ");
+    name(2, word);
+    text(2, b": ");
+    text(2, why);
+    text(2, b"\n");
+    WrongUse
 }
 
 // The last words on standard error where a program was called with wrong arguments: by them tools/status gives status 2.

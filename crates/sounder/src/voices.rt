@@ -90,6 +90,8 @@ pub extern "C" fn sounder_play(
     Played { number, voice }
 }
 
+// Reset, reseed and retune look alike: the C interface has a name for each, and what they do is a method of `Voice` each.
+
 // Phases and memories 0, and the default seed.
 #[unsafe(no_mangle)]
 pub extern "C" fn sounder_reset(mut voice: Voice) -> Played

@@ -1,44 +1,17 @@
 -- The lines in turn, each with its number.
-use Rattle.std.proofs.Common.{rules, tests, refl, ◌∙◌}
+use Rattle.std.proofs.Common.{ℕ, List, Ok, rules, tests, refl, ◌∙◌}
 use Rattle.std.proofs.lemmas.Iterator.Splits.{YieldsList-from_slice_split}
-use Rattle.std.proofs.lemmas.Iterator.Consumers.{YieldsList-from_enumerate, YieldsList-turn, YieldsList-end}
-use Rattle.std.proofs.lemmas.Result.{err_from_is_err_and}
-use Rattle.console.specs.Pieces.{is_feed}
-use Rattle.console.specs.Centres.{after_line, centres_of}
-use Rattle.console.proofs.PiecesLaws.{line-next, line-wrong, lines-end}
+use Rattle.std.proofs.lemmas.Iterator.Consumers.{YieldsList-from_enumerate}
+use Rattle.console.specs.Pieces.{is_feed, lines_of}
+use Rattle.console.specs.Centres.{no_centres, after_line, centres_of}
+use Rattle.console.proofs.PiecesLaws.{pieces_folded, lines_folded}
 use Rattle.console.proofs.centres.read.Goals as goal
 
-pub loop-above-init : goal.loop-above-init
-unfolding centres_of
-loop-above-init c = rw c.none-centres.ensures
-
-pub loop-above-preserved : goal.loop-above-preserved
-loop-above-preserved c =
-    let turn = YieldsList-turn
-    (YieldsList-from_enumerate {s = c.into_iter-above-iterator.result}
-    (YieldsList-from_slice_split _ is_feed c.args.text.now (search rules) (search rules) (search rules) (λ x b q k. search (rules, tests)))
-    (search rules))
-    c.loop-above.yielded c.loop-above.above-iterator c.loop-above.yielded_by c.next.result c.next.new.self
-    (c.in-Some.above, c.in-Some.line) c.in-Some.is c.next.ensures.steps in
-    line-next after_line (λ e n l. refl) _ _ _ _ _ turn _ _ c.in_ok-centres.ensures ∙ c.loop-above.invariant
-
-pub returns-in_err-centres : goal.returns-in_err-centres
-returns-in_err-centres c =
-    let turn = YieldsList-turn
-    (YieldsList-from_enumerate {s = c.into_iter-above-iterator.result}
-    (YieldsList-from_slice_split _ is_feed c.args.text.now (search rules) (search rules) (search rules) (λ x b q k. search (rules, tests)))
-    (search rules))
-    c.loop-above.yielded c.loop-above.above-iterator c.loop-above.yielded_by c.next.result c.next.new.self
-    (c.in-Some.above, c.in-Some.line) c.in-Some.is c.next.ensures.steps in
-    let p = err_from_is_err_and c.from_residual.result c.from_residual.ensures.1 in
-    rw (p.1, p.2) (line-wrong after_line (λ e n l. refl) _ _ _ _ _ turn _ c.in_err-centres.ensures ∙ c.loop-above.invariant)
-
 pub returns : goal.returns
+unfolding centres_of
 returns c =
-    let end = YieldsList-end
-    (YieldsList-from_enumerate {s = c.into_iter-above-iterator.result}
+    pieces_folded _ _ (λ r (p : ℕ × List ℕ). after_line r p.0 p.1) (λ e y. refl) (λ b x w h k. search rules) c.try_fold.ensures.ran
+    (YieldsList-from_enumerate
     (YieldsList-from_slice_split _ is_feed c.args.text.now (search rules) (search rules) (search rules) (λ x b q k. search (rules, tests)))
     (search rules))
-    c.loop-above.yielded c.loop-above.above-iterator c.loop-above.yielded_by c.next.result c.next.new.self
-    c.in-None.is c.next.ensures.steps in
-    lines-end after_line (λ e n l. refl) _ _ _ end.1 ∙ c.loop-above.invariant
+    ∙ rw c.none.ensures (lines_folded after_line (Ok no_centres) 0 (lines_of c.args.text.now))
