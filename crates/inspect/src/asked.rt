@@ -1,11 +1,7 @@
 // Reads the command line. What is wrong with an argument is said at once, and those after it are read too.
-use console::{arguments, say};
+use console::{WrongUse, arguments, say};
 use std::mem;
 use std::rt::Env;
-
-// inspect was called wrongly, and why has been said.
-#[derive(Clone, Copy, Debug, PartialEq, Eq)]
-pub struct WrongUse;
 
 // How many tables are named, and which argument names the file of centres.
 #[derive(Clone, Copy)]
@@ -31,12 +27,7 @@ struct Given {
 
 // Says what is wrong with an argument.
 fn wrong(word: &[u8], why: &[u8]) -> WrongUse {
-    say::text(2, b"inspect: ");
-    say::name(2, word);
-    say::text(2, b": ");
-    say::text(2, why);
-    say::text(2, b"\n");
-    WrongUse
+    say::wrong(b"inspect", word, why)
 }
 
 impl Given {

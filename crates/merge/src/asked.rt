@@ -1,10 +1,6 @@
 // Reads the command line. What is wrong with an argument is said at once, and those after it are read too.
-use console::{arguments, say};
+use console::{WrongUse, arguments, say};
 use std::rt::Env;
-
-// merge was called wrongly, and why has been said.
-#[derive(Clone, Copy, Debug, PartialEq, Eq)]
-pub struct WrongUse;
 
 // The two tables and the file to write, as arguments by their number on the command line, and whether a file of its name may be replaced.
 #[derive(Clone, Copy)]
@@ -33,12 +29,7 @@ struct Given {
 
 // Says what is wrong with an argument.
 fn wrong(word: &[u8], why: &[u8]) -> WrongUse {
-    say::text(2, b"merge: ");
-    say::name(2, word);
-    say::text(2, b": ");
-    say::text(2, why);
-    say::text(2, b"\n");
-    WrongUse
+    say::wrong(b"merge", word, why)
 }
 
 impl Given {

@@ -111,11 +111,7 @@ fn merge<R: Files<File = File> + Env + Print>(
     }
     describe(rt, t.first, first);
     describe(rt, t.second, second);
-    let n = answer.second;
-    if 65536 < n {
-        return Err(Failed);
-    }
-    write(rt, output, answer.first, &target[..n])
+    write(rt, output, answer.first, &target[..answer.second])
 }
 
 // Reads both tables, each into a byte more than a table can have, so a longer file is known without being read to its end.

@@ -65,26 +65,6 @@ fn block_end(from: u32, to: u32) -> u32
     if n < to - from { from + n } else { to }
 }
 
-// The samples from one up to another, in blocks. A `while`: where the first block starts between two multiples of 128 it is shorter, and
-// no range of a `for` goes in such steps.
-fn fill<W: Write>(
-    o: &Options,
-    file: &mut W,
-    run: &mut Run,
-    from: u32,
-    to: u32,
-    total: u32,
-) -> Result<(), Fault> {
-    let mut played = from;
-    while played < to {
-        let end = block_end(played, to);
-        run.block(o, file, played, total, (end - played) as usize)?;
-        played = end;
-        progress(played, total);
-    }
-    Ok(())
-}
-
 fn say_retuned(rate: u32, played: u32) {
     say::text(1, b"retuned to ");
     say::number(1, u64::from(rate));
@@ -92,30 +72,54 @@ fn say_retuned(rate: u32, played: u32) {
     say::counted(1, u64::from(played), b" sample\n", b" samples\n");
 }
 
-// All samples, with the retune between two of them where one is asked for.
-fn fill_all<W: Write>(o: &Options, file: &mut W, run: &mut Run, total: u32) -> Result<(), Fault> {
-    let Some(retune) = o.retune else {
-        return fill(o, file, run, 0, total, total);
-    };
-    let n = before_retune(retune, o.rate, total);
-    fill(o, file, run, 0, n, total)?;
-    run.retune(retune.rate)?;
-    say_retuned(retune.rate, n);
-    fill(o, file, run, n, total, total)
-}
+impl<'a> Run<'a> {
+    // Before the first sample.
+    fn start(options: &'a Options, voice: Voice) -> Run<'a>
+        ensures { result.total ≤ 16777216 }
+    {
+        Run {
+            options,
+            total: samples(options.micros, options.rate),
+            voice,
+            sink: Sink::new(),
+            peak: 0,
+        }
+    }
 
-// The header, then the samples.
-fn fill_file<W: Write>(o: &Options, file: &mut W, voice: Voice, total: u32) -> Result<Run, Fault>
-    requires { total ≤ 16777216 }
-{
-    let mut run = Run {
-        voice,
-        sink: Sink::new(),
-        peak: 0,
-    };
-    run.sink.send(file, &wav::header(o.rate, total))?;
-    fill_all(o, file, &mut run, total)?;
-    Ok(run)
+    // The samples from one up to another, in blocks. A `while`: where the first block starts between two multiples of 128 it is shorter,
+    // and no range of a `for` goes in such steps.
+    fn fill<W: Write>(&mut self, file: &mut W, from: u32, to: u32) -> Result<(), Fault> {
+        let mut played = from;
+        while played < to {
+            let end = block_end(played, to);
+            self.block(file, played, (end - played) as usize)?;
+            played = end;
+            progress(played, self.total);
+        }
+        Ok(())
+    }
+
+    // All samples, with the retune between two of them where one is asked for.
+    fn fill_all<W: Write>(&mut self, file: &mut W) -> Result<(), Fault> {
+        let total = self.total;
+        let Some(retune) = self.options.retune else {
+            return self.fill(file, 0, total);
+        };
+        let n = before_retune(retune, self.options.rate, total);
+        self.fill(file, 0, n)?;
+        self.retune(retune.rate)?;
+        say_retuned(retune.rate, n);
+        self.fill(file, n, total)
+    }
+
+    // The header, then the samples.
+    fn fill_file<W: Write>(&mut self, file: &mut W) -> Result<(), Fault>
+        requires { self.old.total ≤ 16777216 }
+    {
+        self.sink
+            .send(file, &wav::header(self.options.rate, self.total))?;
+        self.fill_all(file)
+    }
 }
 
 // Says why not every sample was played and written.
@@ -138,12 +142,12 @@ fn say_fault(fault: Fault, part: &[u8]) {
     }
 }
 
-fn report<R: Print>(rt: &R, path: &[u8], rate: u32, run: Run, total: u32) {
+fn report<R: Print>(rt: &R, path: &[u8], run: Run) {
     say::text(1, b"wrote ");
     say::name(1, path);
     say::text(1, b": ");
-    say::counted(1, u64::from(total), b" sample at ", b" samples at ");
-    say::number(1, u64::from(rate));
+    say::counted(1, u64::from(run.total), b" sample at ", b" samples at ");
+    say::number(1, u64::from(run.options.rate));
     say::text(1, b" a second, peak ");
     say::float(1, run.peak);
     say::text(1, b", CRC-32 of the file ");
@@ -160,20 +164,18 @@ fn report<R: Print>(rt: &R, path: &[u8], rate: u32, run: Run, total: u32) {
 // Plays into the part, which becomes the file once it is whole, and is removed where it is not.
 fn make_file<R: Files<File = File> + Print>(
     rt: &R,
-    o: &Options,
-    voice: Voice,
     output: Output,
-) -> Result<(), Failed> {
+    mut run: Run,
+) -> Result<(), Failed>
+    requires { run.total ≤ 16777216 }
+{
     let mut file = output.open(rt)?;
-    let total = samples(o.micros, o.rate);
-    let filled = fill_file(o, &mut file, voice, total);
+    let filled = run.fill_file(&mut file);
     if let Err(fault) = filled {
         say_fault(fault, output.part);
     }
     output.keep(rt, file, filled.is_ok())?;
-    if let Ok(run) = filled {
-        report(rt, output.path, o.rate, run, total);
-    }
+    report(rt, output.path, run);
     Ok(())
 }
 
@@ -192,5 +194,5 @@ pub fn write<R: Files<File = File> + Env + Print>(
         part: &part[..k],
         replace: false,
     };
-    make_file(rt, o, voice, output)
+    make_file(rt, output, Run::start(o, voice))
 }

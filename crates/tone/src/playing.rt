@@ -20,9 +20,11 @@ impl From<Error> for Fault {
     }
 }
 
-// How far the playing has come: the voice, what was sent, and the largest magnitude as a pattern.
+// A tone of so many samples, and how far its playing has come: the voice, what was sent, and the largest magnitude as a pattern.
 #[derive(Clone, Copy)]
-pub struct Run {
+pub struct Run<'a> {
+    pub options: &'a Options,
+    pub total: u32,
     pub voice: Voice,
     pub sink: Sink,
     pub peak: u32,
@@ -51,7 +53,8 @@ fn frequencies(o: &Options, first: u32, total: u32) -> [f32; 128]
     f
 }
 
-// The pattern of a float; one for every NaN.
+// The pattern of a float; one for every NaN. (The checks of the repository have this line too, each for itself: what a check reads an answer
+// by is not to come from what it checks.)
 pub fn bits(x: f32) -> u32 {
     if x.is_nan() { 0x7fc0_0000 } else { x.to_bits() }
 }
@@ -99,19 +102,13 @@ fn shape(o: &Options, samples: usize) -> Shape {
     }
 }
 
-impl Run {
+impl Run<'_> {
     // Plays the n samples from `first` on, and writes them.
-    pub fn block<W: Write>(
-        &mut self,
-        o: &Options,
-        file: &mut W,
-        first: u32,
-        total: u32,
-        n: usize,
-    ) -> Result<(), Fault>
+    pub fn block<W: Write>(&mut self, file: &mut W, first: u32, n: usize) -> Result<(), Fault>
         requires { n ≤ 128 }
     {
-        let f = frequencies(o, first, total);
+        let o = self.options;
+        let f = frequencies(o, first, self.total);
         let g0 = steady(o.gains[0]);
         let g1 = steady(o.gains[1]);
         let g2 = steady(o.gains[2]);

@@ -1,8 +1,8 @@
 // Reads the command line. What is wrong with an argument is said at once, and those after it are read too.
 use crate::flags::Flag;
 use crate::options::{Options, Quiet, Retune};
-use crate::values::{WrongUse, file, minute, number, seconds, whole, wrong, wrong_value};
-use console::{arguments, say};
+use crate::values::{file, minute, number, seconds, whole, wrong, wrong_value};
+use console::{WrongUse, arguments, say};
 use std::mem;
 use std::rt::Env;
 use table::desk::Kind;

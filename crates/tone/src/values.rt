@@ -2,21 +2,12 @@
 use crate::flags::Flag;
 use console::decimal::Decimal;
 use console::narrow::value;
-use console::{arguments, decimal, plans, say};
+use console::{WrongUse, arguments, decimal, plans, say};
 use std::rt::Env;
-
-// tone was called wrongly, and why has been said.
-#[derive(Clone, Copy, Debug, PartialEq, Eq)]
-pub struct WrongUse;
 
 // Says what is wrong with an argument.
 pub fn wrong(word: &[u8], why: &[u8]) -> WrongUse {
-    say::text(2, b"tone: ");
-    say::name(2, word);
-    say::text(2, b": ");
-    say::text(2, why);
-    say::text(2, b"\n");
-    WrongUse
+    say::wrong(b"tone", word, why)
 }
 
 // Says what is wrong with an option's value.
@@ -32,17 +23,19 @@ pub fn wrong_value(flag: Flag, text: &[u8], why: &[u8]) -> WrongUse {
 }
 
 pub fn whole(flag: Flag, text: &[u8]) -> Result<u32, WrongUse> {
-    match decimal::read_whole(text) {
-        Some(n) => Ok(n),
-        None => Err(wrong_value(flag, text, b"not a whole number from 0 to 4294967295")),
-    }
+    decimal::read_whole(text).ok_or_else(|| wrong_value(
+        flag,
+        text,
+        b"not a whole number from 0 to 4294967295",
+    ))
 }
 
 fn decimal_number(flag: Flag, text: &[u8]) -> Result<Decimal, WrongUse> {
-    match decimal::read(text) {
-        Some(d) => Ok(d),
-        None => Err(wrong_value(flag, text, b"not a decimal number of at most 15 digits")),
-    }
+    decimal::read(text).ok_or_else(|| wrong_value(
+        flag,
+        text,
+        b"not a decimal number of at most 15 digits",
+    ))
 }
 
 pub fn number(flag: Flag, text: &[u8]) -> Result<f32, WrongUse> {
@@ -68,26 +61,20 @@ fn millionths(d: Decimal) -> Option<u64> {
 }
 
 pub fn seconds(flag: Flag, text: &[u8]) -> Result<u64, WrongUse> {
-    match millionths(decimal_number(flag, text)?) {
-        Some(n) => Ok(n),
-        None => Err(wrong_value(
-            flag,
-            text,
-            b"not a number of seconds from 0 to 60 with at most six places",
-        )),
-    }
+    millionths(decimal_number(flag, text)?).ok_or_else(|| wrong_value(
+        flag,
+        text,
+        b"not a number of seconds from 0 to 60 with at most six places",
+    ))
 }
 
 // A minute of the week, as a plan's file has it.
 pub fn minute(flag: Flag, text: &[u8]) -> Result<u32, WrongUse> {
-    match plans::minute(text) {
-        Some(m) => Ok(m),
-        None => Err(wrong_value(
-            flag,
-            text,
-            b"neither a minute of the week, 0 to 10079, nor a day and a clock, as \"Mon 22:00\"",
-        )),
-    }
+    plans::minute(text).ok_or_else(|| wrong_value(
+        flag,
+        text,
+        b"neither a minute of the week, 0 to 10079, nor a day and a clock, as \"Mon 22:00\"",
+    ))
 }
 
 // Argument `i`, where it names a file. A name longer than the buffer is refused by its length.
