@@ -1,7 +1,10 @@
 // How many bands, channels and phases a voice has.
-ghost use Rattle.std.specs.Prelude.{◌≡◌, ◌≤◌};
+ghost use Rattle.std.specs.Prelude.{◌≡◌, ◌≤◌, ℕ};
+ghost use Rattle.table.specs.declared.entry.EntryView.{EntryView};
+ghost use Rattle.table.specs.Table.{PitchEntry};
+ghost use Rattle.table.specs.View.{entry_at};
 ghost use Rattle.table.specs.Desk.{band_count};
-ghost use Rattle.making.specs.Making.{most_channels, channel_count, partial_reach, reach_in, phases_for, phase_count};
+ghost use Rattle.making.specs.Making.{most, most_channels, channel_count, partial_reach, reach_in, phases_for, phase_count};
 ghost use Rattle.making.specs.inner.Entry.{entry_in};
 ghost use Rattle.making.specs.inner.Sounding.{sounding_of};
 ghost use Rattle.making.specs.inner.Views.{entries_in};
@@ -10,7 +13,7 @@ use crate::entries::Entries;
 use crate::entry::Entry;
 use crate::sounding::Sounding;
 use table::desk::{Kind, bands_of};
-use table::entry::has_channel;
+use table::entry::{EntryView, has_channel};
 use voice::MAX_BLENDED;
 
 impl Entry<'_> {
@@ -51,21 +54,26 @@ impl Entry<'_> {
 }
 
 impl Entries<'_> {
+    // The largest count of any entry, 0 where there is none.
+    fn most<F: Fn(EntryView) -> u32>(&self, count: F) -> u32
+        requires { F.IsAlwaysCallable count }
+        ensures { (p : PitchEntry → ℕ) → ((v : EntryView) (n : ℕ) → F.post count v n → n ≡ p (entry_at self.now.image.now v))
+            → result ≡ most p (entries_in self.now) }
+    {
+        self.views.iter().map(|v| count(*v)).max().unwrap_or(0)
+    }
+
     // The largest band count that an entry gives the voice.
     pub fn band_count(&self, kind: Kind) -> u32
         ensures { result ≡ band_count kind (entries_in self.now) }
     {
-        self.views
-            .iter()
-            .map(|v| bands_of(kind, *v))
-            .max()
-            .unwrap_or(0)
+        self.most(|v| bands_of(kind, v))
     }
 
     fn most_channels(&self) -> u32
         ensures { result ≡ most_channels (entries_in self.now) }
     {
-        self.views.iter().map(|v| v.k_channels).max().unwrap_or(0)
+        self.most(|v| v.k_channels)
     }
 
     fn channel_count(&self, kind: Kind) -> u32
@@ -91,10 +99,6 @@ impl Entries<'_> {
     pub fn phase_count(&self, sounding: Sounding) -> u32
         ensures { result ≡ phase_count sounding.kind sounding.channels (entries_in self.now) }
     {
-        self.views
-            .iter()
-            .map(|v| self.entry(*v).phases_for(sounding))
-            .max()
-            .unwrap_or(0)
+        self.most(|v| self.entry(v).phases_for(sounding))
     }
 }

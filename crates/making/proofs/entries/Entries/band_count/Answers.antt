@@ -1,22 +1,8 @@
-use Rattle.std.proofs.Common.{ap, ◌∙◌, unwrap_or, rules, tests}
-use Rattle.std.proofs.lemmas.Iterator.{YieldsList-from_slice, YieldsList-from_map}
-use Rattle.std.proofs.lemmas.Iterator.Consumers.{reduce_from_yields_List}
-use Rattle.std.proofs.lemmas.List.Folds.{max_of_map}
-use Rattle.table.specs.declared.entry.EntryView.{EntryView}
-use Rattle.table.specs.View.{entry_at}
+use Rattle.std.proofs.Common.{◌∙◌, rules}
 use Rattle.table.specs.Desk.{bands_of}
-use Rattle.making.specs.inner.Views.{viewed}
-use Rattle.making.proofs.ViewLaws.{most-viewed, most-bands}
+use Rattle.making.specs.inner.Views.{entries_in}
+use Rattle.making.proofs.ViewLaws.{most-bands}
 use Rattle.making.proofs.entries.Entries.band_count.Goals as goal
 
 pub returns : goal.returns
-returns c =
-    let k = c.args.kind in
-    let s = c.args.self.now.image.now in
-    let views = c.args.self.now.views.now in
-    let h = λ (v : EntryView). bands_of k (entry_at s v) in
-    c.unwrap_or.ensures
-    ∙ ap (λ o. unwrap_or o 0) (reduce_from_yields_List _ c.map.result _ c.max.ensures.ran (YieldsList-from_map _ h (YieldsList-from_slice views (cc)) c.map.ensures.closure (λ x b q k. search (rules, tests))))
-    ∙ max_of_map h views
-    ∙ most-viewed s (bands_of k) views
-    ∙ most-bands k (viewed s views)
+returns c = c.most.ensures (bands_of c.args.kind) (λ v n k. search rules) ∙ most-bands c.args.kind (entries_in c.args.self.now)
