@@ -2,6 +2,7 @@ pub mod OrderLaws
 pub mod EqualKeys
 pub mod RankLaws
 pub mod SortLaws
+pub mod RunLaws
 pub mod FloatLaws
 pub mod SpanOrder
 pub mod AcceptedLaws
