@@ -6,7 +6,7 @@ use Prim.Native.Nat.{ℕ, zero, suc, ◌+◌, ◌*◌, ◌≤◌, ◌<◌}
 use native.Mathlib.Omega.{arith}
 use lib.ListN.{get_or}
 use lib.Dec.{T, eqb}
-use lib.Ieee.{Float, nan, binary32, eq, fits, le}
+use lib.Ieee.{Float, nan, inf, fin, binary32, eq, fits, le}
 use Rattle.float.specs.inner.Range.{Within}
 use Rattle.float.proofs.Identities.{same_float}
 use Rattle.float.specs.F32.{quotient}
@@ -78,6 +78,13 @@ NoiseTunedTo v live f0 t = NoiseTuned (constants_at v.set) (entries_at v.set v.l
 pub noise-stays : (v : Voice) (live : Live) (t : NoiseTuning) (f0 : Float) → T (fits binary32 f0) → Within 20000 1 f0 → NoiseTunedTo v live f0 t
     → (g was : Float) → T (fits binary32 g) → Within 20000 1 g → t.f0 ≡ Some was → eq g was ≡ true → NoiseTunedTo v live g t
 noise-stays v live t f0 F W T g was G U k q = subst (λ (z : Float). NoiseTunedTo v live z t) (sym (same-kept t.f0 f0 g was T.at F W G U k q)) T
+
+-- LAW: a NaN is kept for no frequency, since none is equal to it
+pub untuned-none : (g : Float) → eq g nan ≡ true → ⊥
+unfolding eq
+untuned-none nan e = subst T (sym e) tt
+untuned-none (inf s) e = subst T (sym e) tt
+untuned-none (fin s m d) e = subst T (sym e) tt
 
 module _ (v : Voice) (f0 : Float) (t : Tuning) (T : TunedVoice v f0 t) (ps qs : List Float) (P : phases_ok ps v.set.m ≡ true)
     (Q : qs ≡ map_to (λ i p. advance_of p (get_or t.incs i nan)) 0 v.set.m ps) where
