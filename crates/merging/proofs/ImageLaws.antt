@@ -101,6 +101,23 @@ unfolding put_all put_entry
 many-bytes [] = omega arith
 many-bytes (a ∷ l) = let g = many-bytes l in simp length-append (omega arith)
 
+-- of which it has no more than bytes
+many-sizes : (l : List PitchEntry) → length l ≤ total entry_size l
+unfolding total
+many-sizes [] = omega arith
+many-sizes (a ∷ l) = let g = many-sizes l in omega arith
+
+pub few-entries : (a : Accepted) → a.extent.count ≤ 65536
+few-entries a =
+    let p = holds-of a in
+    let n : a.extent.count ≡ length p.table.entries = p.count in
+    let m : length p.table.entries ≤ total entry_size p.table.entries = many-sizes p.table.entries in
+    let l : entry_list a.extent.count a.image.now a.extent.at ≡ p.table.entries = holds-list _ _ p ∙ holds-entries _ _ p in
+    let e : a.extent.end ≡ a.extent.at + total entry_size p.table.entries = rw l at (holds-end _ _ p) in
+    let x : a.extent.end ≤ length a.image.now = p.end in
+    let y : length a.image.now ≤ 65536 = p.short in
+    omega arith
+
 -- ---- two images
 module _ (s v : List ℕ) (bs : Bytes s) (bv : Bytes v) (x y : Extent) (p : Holds s x) (q : Holds v y) (short : length (stable_image (decode s) (decode v)) ≤ 65536) where
   abbrev t : CoeffTable

@@ -32,3 +32,28 @@ impl<'a> Accepted<'a> {
         })
     }
 }
+
+// Two accepted images, whose tables are to be one.
+#[derive(Clone, Copy)]
+pub struct Tables<'a> {
+    pub first: Accepted<'a>,
+    pub second: Accepted<'a>,
+}
+
+impl<'a> Tables<'a> {
+    ghost use Rattle.std.specs.Prelude.{◌≡◌, ◌+◌, ◌-◌};
+
+    // How many entries the two have.
+    pub fn entries(self) -> usize
+        ensures { result ≡ self.entry.first.extent.count + self.entry.second.extent.count }
+    {
+        self.first.extent.count + self.second.extent.count
+    }
+
+    // How long the result is, by where the two end: the first image up to its last entry, and the second one's entries.
+    pub fn bytes(self) -> usize
+        ensures { result ≡ self.entry.first.extent.end + (self.entry.second.extent.end - self.entry.second.extent.at) }
+    {
+        self.first.extent.end + (self.second.extent.end - self.second.extent.at)
+    }
+}

@@ -4,16 +4,17 @@ ghost use Rattle.table.specs.Decode.{entries_of};
 ghost use Rattle.table.specs.Span.{consistent, agrees};
 ghost use Rattle.merging.specs.inner.Accepted.{read_as};
 
-use crate::accepted::Accepted;
+use crate::accepted::Tables;
 use table::entry::entry_at;
 use table::spans_agree;
 use wire::cursor::Cursor;
 
 // Whether the entries of two accepted images agree together.
-pub fn joined_agree(first: Accepted, second: Accepted) -> bool
+pub fn joined_agree(tables: Tables) -> bool
     ensures { result
-        ≡ agrees (consistent (entries_of (read_as first.entry) ++ entries_of (read_as second.entry))) }
+        ≡ agrees (consistent (entries_of (read_as tables.entry.first) ++ entries_of (read_as tables.entry.second))) }
 {
+    let Tables { first, second } = tables;
     let x = first.extent;
     let y = second.extent;
     if x.count == 0 || y.count == 0 {

@@ -6,7 +6,7 @@ ghost use Rattle.merging.specs.Answer.{merging_outcome};
 ghost use Rattle.merging.specs.inner.Accepted.{read_as};
 ghost use Rattle.merging.specs.inner.Image.{stable_over, ResultFits};
 
-use crate::accepted::Accepted;
+use crate::accepted::{Accepted, Tables};
 use crate::head::put_head;
 use crate::keys::{Key, ordered_keys};
 use crate::spans::joined_agree;
@@ -25,63 +25,59 @@ pub enum MergeError {
 }
 
 // Writes the result, which fits and has at most N entries: so many keys are cleared first. (The library allocates nothing.)
-fn put_within<const N: usize>(first: Accepted, second: Accepted, target: &mut [u8])
-    requires { (ResultFits (read_as first) (read_as second) (length target.old))
-        × (first.extent.count + second.extent.count ≤ N) × (N ≤ 2340) }
+fn put_within<const N: usize>(tables: Tables, target: &mut [u8])
+    requires { (ResultFits (read_as tables.first) (read_as tables.second) (length target.old))
+        × (tables.first.extent.count + tables.second.extent.count ≤ N) × (N ≤ 2340) }
     ensures { target.new
-        ≡ stable_over (read_as first.entry) (read_as second.entry) target.old }
+        ≡ stable_over (read_as tables.entry.first) (read_as tables.entry.second) target.old }
 {
     let mut room = [Key::default(); N];
     let keys = &mut room[..];
-    let n = first.extent.count;
-    let k = n + second.extent.count;
-    ordered_keys(first, &mut keys[..n]);
-    ordered_keys(second, &mut keys[n..k]);
-    put_head(first, k as u32, target);
+    let n = tables.first.extent.count;
+    let k = tables.entries();
+    ordered_keys(tables.first, &mut keys[..n]);
+    ordered_keys(tables.second, &mut keys[n..k]);
+    put_head(tables.first, k as u32, target);
     // (Shared as a whole first: two parts of a slice that may be written on are not lent at once.)
     let keys = &keys[..];
-    put_all(first, second, &keys[..n], &keys[n..k], target);
+    put_all(tables, &keys[..n], &keys[n..k], target);
 }
 
 // Writes the result, which fits. Few entries, as two voices' tables have, are put in order in an array that is cleared in no time. An entry
 // takes 28 bytes at least and a head 14, so no more than 2,340 entries fit.
-fn put_merged(first: Accepted, second: Accepted, target: &mut [u8])
-    requires { ResultFits (read_as first) (read_as second) (length target.old) }
+fn put_merged(tables: Tables, target: &mut [u8])
+    requires { ResultFits (read_as tables.first) (read_as tables.second) (length target.old) }
     ensures { target.new
-        ≡ stable_over (read_as first.entry) (read_as second.entry) target.old }
+        ≡ stable_over (read_as tables.entry.first) (read_as tables.entry.second) target.old }
 {
-    let entries = first.extent.count + second.extent.count;
+    let entries = tables.entries();
     if entries <= 64 {
-        put_within::<64>(first, second, target);
+        put_within::<64>(tables, target);
     } else {
-        put_within::<2340>(first, second, target);
+        put_within::<2340>(tables, target);
     }
 }
 
-// Questions 21 to 23 of two accepted images, and the writing. How long the result is goes by where the two end, before anything is written.
-fn merge_accepted(
-    first: Accepted,
-    second: Accepted,
-    target: &mut [u8],
-) -> Result<Written, MergeError>
+// Questions 21 to 23 of two accepted images, and the writing. How long the result is is known before anything is written.
+fn merge_accepted(tables: Tables, target: &mut [u8]) -> Result<Written, MergeError>
     ensures answered { merging_outcome result
-        ≡ merging (read_as first.entry) (read_as second.entry) (length target.old) }
-    ensures left { MergeLeaves (read_as first.entry) (read_as second.entry)
+        ≡ merging (read_as tables.entry.first) (read_as tables.entry.second) (length target.old) }
+    ensures left { MergeLeaves (read_as tables.entry.first) (read_as tables.entry.second)
         target.old target.new }
 {
-    if !joined_agree(first, second) {
+    if !joined_agree(tables) {
         return Err(MergeError::InconsistentSpans);
     }
-    let bytes = first.extent.end + (second.extent.end - second.extent.at);
+    let bytes = tables.bytes();
     if 65536 < bytes {
         return Err(MergeError::TooLong);
     }
     if target.len() < bytes {
         return Err(MergeError::TargetTooShort);
     }
-    put_merged(first, second, target);
+    put_merged(tables, target);
     Ok(Written {
-        entries: first.extent.count + second.extent.count,
+        entries: tables.entries(),
         bytes,
     })
 }
@@ -96,5 +92,5 @@ pub fn merge(first: &[u8], second: &[u8], target: &mut [u8]) -> Result<Written, 
 {
     let first = Accepted::read(first).map_err(MergeError::First)?;
     let second = Accepted::read(second).map_err(MergeError::Second)?;
-    merge_accepted(first, second, target)
+    merge_accepted(Tables { first, second }, target)
 }
