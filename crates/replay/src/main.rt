@@ -45,11 +45,11 @@ fn record_of<F: Read, P: Fn(&mut Tally, Words)>(file: &mut F, t: &mut Tally, n: 
 {
     let mut buffer = [0; RECORD];
     let Some(bytes) = buffer.get_mut(..n) else {
-        t.same_count(b"a record too long for the replay", 0, 0, n);
+        t.same(b"a record too long for the replay", 0, 0, n);
         return;
     };
     let got = read_full(file, bytes);
-    t.same_count(b"bytes of the record", 0, got, n);
+    t.same(b"bytes of the record", 0, got, n);
     replayed(t, Words::new(bytes));
 }
 

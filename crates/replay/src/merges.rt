@@ -11,7 +11,7 @@ pub fn record(t: &mut Tally, mut w: Words) {
     let before = w.bytes();
     let mut buffer = [0; TARGET];
     let Some(target) = buffer.get_mut(..before.len()) else {
-        t.same_count(
+        t.same(
             b"a target that is too long for the replay",
             0,
             0,
@@ -24,5 +24,5 @@ pub fn record(t: &mut Tally, mut w: Words) {
     t.answered(m.answer.number);
     t.same_answer(b"the merge's", m.answer, w.answer());
     t.same(b"the merge's image", 0, m.image, w.word());
-    t.same_bytes(b"a byte of the merged table", target, w.bytes());
+    t.same_all(b"a byte of the merged table", target, w.bytes());
 }

@@ -4,7 +4,7 @@ use crate::tally::Tally;
 use std::array;
 use voice::{
     BANDS_AT, BiquadCoeffs, CENTRES, COMPENSATIONS, LISTS_PLACES, MAINLOBE_GAINS, NOISE_GAINS,
-    PITCHES, Rng, STRETCHES, Setting, State, Voice,
+    PITCHES, STRETCHES, Setting, State, Voice,
 };
 
 // The fields of the short lists, of 16 places each: the field's number, its name, where its first place stands, and how far the next is.
@@ -21,31 +21,6 @@ const COLUMNS: [(u32, &[u8], usize, usize); 11] = [
     (20, b"compensation", COMPENSATIONS * 16, 1),
     (25, b"centres", CENTRES * 16, 1),
 ];
-
-// The voice that is all zero.
-pub fn blank() -> Voice {
-    Voice {
-        set: Setting {
-            blend: 0,
-            channel: 0,
-            count: 0,
-            k: 0,
-            m: 0,
-            j: 0,
-            live_count: 0,
-            sample_rate: 0.0,
-            live: [0; 16],
-        },
-        lists: [0.0; LISTS_PLACES],
-        partials: [0.0; 2048],
-        noise: [0.0; 1024],
-        state: State {
-            phases: [0.0; 32],
-            memories: [0.0; 32],
-            rng: Rng { state: 0 },
-        },
-    }
-}
 
 // The place of a column that starts at one place, at the i-th step from it.
 fn place(start: usize, step: usize, i: usize) -> usize {
@@ -143,15 +118,13 @@ pub fn without_unread(v: &Voice) -> Voice {
 fn same_numbers(t: &mut Tally, ours: &Setting, theirs: &Setting) {
     t.same(b"blend", 0, ours.blend, theirs.blend);
     t.same(b"channel", 0, ours.channel, theirs.channel);
-    t.same_count(b"count", 0, ours.count, theirs.count);
-    t.same_count(b"k", 0, ours.k, theirs.k);
-    t.same_count(b"m", 0, ours.m, theirs.m);
-    t.same_count(b"j", 0, ours.j, theirs.j);
-    t.same_count(b"live_count", 0, ours.live_count, theirs.live_count);
-    for (i, (a, b)) in ours.live.iter().zip(&theirs.live).enumerate() {
-        t.same(b"live", i, u32::from(*a), u32::from(*b));
-    }
-    t.same_float(b"sample_rate", 0, ours.sample_rate, theirs.sample_rate);
+    t.same(b"count", 0, ours.count, theirs.count);
+    t.same(b"k", 0, ours.k, theirs.k);
+    t.same(b"m", 0, ours.m, theirs.m);
+    t.same(b"j", 0, ours.j, theirs.j);
+    t.same(b"live_count", 0, ours.live_count, theirs.live_count);
+    t.same_all(b"live", &ours.live, &theirs.live);
+    t.same(b"sample_rate", 0, ours.sample_rate, theirs.sample_rate);
 }
 
 fn same_column(
@@ -162,7 +135,7 @@ fn same_column(
     ours: &[f32],
     theirs: &[f32],
 ) {
-    t.same_floats(
+    t.same_all(
         name,
         &column(ours, start, step),
         &column(theirs, start, step),
@@ -170,7 +143,7 @@ fn same_column(
 }
 
 fn same_state(t: &mut Tally, ours: &State, theirs: &State) {
-    t.same_floats(b"phases", &ours.phases, &theirs.phases);
+    t.same_all(b"phases", &ours.phases, &theirs.phases);
     same_column(t, b"z1", 0, 2, &ours.memories, &theirs.memories);
     same_column(t, b"z2", 1, 2, &ours.memories, &theirs.memories);
     t.same(b"noise number", 0, ours.rng.state, theirs.rng.state);
@@ -182,7 +155,7 @@ pub fn same_voice(t: &mut Tally, ours: &Voice, theirs: &Voice) {
     for (_, name, start, step) in COLUMNS {
         same_column(t, name, start, step, &ours.lists, &theirs.lists);
     }
-    t.same_floats(b"partials", &ours.partials, &theirs.partials);
-    t.same_floats(b"noise", &ours.noise, &theirs.noise);
+    t.same_all(b"partials", &ours.partials, &theirs.partials);
+    t.same_all(b"noise", &ours.noise, &theirs.noise);
     same_state(t, &ours.state, &theirs.state);
 }

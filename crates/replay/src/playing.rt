@@ -1,8 +1,11 @@
 // Records of making and playing: a making, and the calls on its voice (compare/driver/playing/list.rs has the form).
+// `t`, where differences are told, and `w`, the words that are left, go side by side, and `voice` where a call moves it on: with
+// one struct of them a line as `t.same(b"a sample", i, *x, w.float())` would only name that struct twice, which is no plainer.
 use crate::list::{FLOATS, Words};
-use crate::places::{band, blank, changed, same_voice, without_unread};
+use crate::places::{band, changed, same_voice, without_unread};
 use crate::tally::Tally;
 use filters::biquad_noise_power_gain;
+use making::blank_voice;
 use sounder::voices::{sounder_make, sounder_play, sounder_reseed, sounder_reset, sounder_retune};
 use voice::{LISTS_PLACES, Played, Shape, Voice};
 
@@ -51,18 +54,18 @@ fn played(t: &mut Tally, w: &mut Words, voice: &mut Voice, given: &Voice) {
     let len = w.count();
     let mut buffer = [9.0; FLOATS];
     let Some(out) = buffer.get_mut(..len) else {
-        t.same_count(b"an output too long for the replay", 0, 0, len);
+        t.same(b"an output too long for the replay", 0, 0, len);
         w.end();
         return;
     };
     let ours = sounder_play(*given, shape, freq, g0, g1, g2, g3, out);
     if concluded(t, w, b"the play's number", voice, given, &ours) {
         for (i, x) in out.iter().enumerate() {
-            t.same_float(b"a sample of a refused play", i, *x, 9.0);
+            t.same(b"a sample of a refused play", i, *x, 9.0);
         }
     } else {
         for (i, x) in out.iter().enumerate() {
-            t.same_float(b"a sample", i, *x, w.float());
+            t.same(b"a sample", i, *x, w.float());
         }
         t.samples = t.samples.saturating_add(len as u64);
     }
@@ -110,7 +113,7 @@ fn rung(t: &mut Tally, w: &mut Words, lists: &[f32; LISTS_PLACES], rate: f32, ce
     for (i, raw) in centres.iter().enumerate() {
         let ours = biquad_noise_power_gain(centre(*raw, rate), 1.0, rate, band(lists, i));
         t.same(b"a ring count", i, ours.n, w.word());
-        t.same_float(b"a noise power", i, ours.power, w.float());
+        t.same(b"a noise power", i, ours.power, w.float());
     }
 }
 
@@ -125,7 +128,7 @@ pub fn record(t: &mut Tally, mut w: Words) {
     t.answered(m.answer.number);
     let theirs = w.answer();
     t.same_answer(b"the making's", m.answer, theirs);
-    let fresh = changed(&blank(), &mut w);
+    let fresh = changed(&blank_voice(), &mut w);
     same_voice(t, &without_unread(&m.voice), &fresh);
     if theirs.number == 0 {
         rung(t, &mut w, &m.voice.lists, rate, centres);

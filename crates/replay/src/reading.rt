@@ -1,4 +1,5 @@
 // Records of reading and rewriting: the image, a channel and the original's answers (compare/driver/list.rs has the form).
+// `t`, where differences are told, and `w`, the words that are left, go side by side, for the reason that playing.rt says.
 use crate::list::Words;
 use crate::tally::Tally;
 use sounder::images::{sounder_desk, sounder_from_bytes, sounder_name, sounder_to_bytes};
@@ -11,8 +12,8 @@ pub const TARGET: usize = 4096;
 
 fn named(t: &mut Tally, w: &mut Words, image: &[u8]) {
     let p = sounder_name(image);
-    t.same_count(b"the name's start", 0, p.start, w.count());
-    t.same_count(b"the name's length", 0, p.len, w.count());
+    t.same(b"the name's start", 0, p.start, w.count());
+    t.same(b"the name's length", 0, p.len, w.count());
 }
 
 // The refusal's number.
@@ -30,7 +31,7 @@ fn string_read(t: &mut Tally, w: &mut Words, image: &[u8], pos: usize) {
         Err(e) => (refusal_of(e.error), e.reached.at),
     };
     t.same(b"a string's number", 0, number, w.word());
-    t.same_count(b"a string's end", 0, end, w.count());
+    t.same(b"a string's end", 0, end, w.count());
 }
 
 // The desk of a refused image has the read's answer, and of another none.
@@ -52,7 +53,7 @@ fn rewriting(t: &mut Tally, w: &mut Words, image: &[u8]) {
     let before = w.bytes();
     let mut buffer = [0; TARGET];
     let Some(target) = buffer.get_mut(..before.len()) else {
-        t.same_count(
+        t.same(
             b"a target that is too long for the replay",
             0,
             0,
@@ -64,7 +65,7 @@ fn rewriting(t: &mut Tally, w: &mut Words, image: &[u8]) {
     let a = sounder_to_bytes(image, target);
     t.answered(a.number);
     t.same_answer(b"the rewriting's", a, w.answer());
-    t.same_bytes(b"a byte of the target", target, w.bytes());
+    t.same_all(b"a byte of the target", target, w.bytes());
 }
 
 pub fn record(t: &mut Tally, mut w: Words) {

@@ -11,14 +11,49 @@ pub struct Tally {
     pub answers: [u64; 24], // answers by their number
 }
 
-// The bits of a float; one for every NaN.
-fn bits(x: f32) -> u32 {
-    if x.is_nan() { 0x7fc0_0000 } else { x.to_bits() }
+// What is compared bit for bit: as one word.
+pub trait Word {
+    fn word(self) -> u32;
 }
 
-// A whole number as a word: the largest word for one that is larger.
-fn narrow(n: usize) -> u32 {
-    u32::try_from(n).unwrap_or(u32::MAX)
+impl Word for u32 {
+    fn word(self) -> u32 {
+        self
+    }
+}
+
+impl Word for u8 {
+    fn word(self) -> u32 {
+        u32::from(self)
+    }
+}
+
+// The largest word for a number that is larger.
+impl Word for usize {
+    fn word(self) -> u32 {
+        u32::try_from(self).unwrap_or(u32::MAX)
+    }
+}
+
+// One word for every NaN. (Not from a crate below: what an answer is read by is not to come from what is checked.)
+impl Word for f32 {
+    fn word(self) -> u32 {
+        if self.is_nan() {
+            0x7fc0_0000
+        } else {
+            self.to_bits()
+        }
+    }
+}
+
+// Two words that are to be the same: whose they are, which part of it, at which index.
+#[derive(Clone, Copy)]
+struct Pair<'a> {
+    whose: &'a [u8],
+    part: &'a [u8],
+    index: usize,
+    ours: u32,
+    theirs: u32,
 }
 
 impl Tally {
@@ -40,76 +75,67 @@ impl Tally {
         }
     }
 
-    // Tells a difference: what differs, whose part it is, at which index, and both sides' words. Printing is by `io`, so that a comparison
-    // needs no handle and no answer of its own.
-    fn tell(&self, whose: &[u8], part: &[u8], index: usize, ours: u32, theirs: u32) {
+    // Tells a difference. Printing is by `io`, so that a comparison needs no handle and no answer of its own.
+    fn tell(&self, pair: Pair) {
         io::write_all(1, b"  record ");
         io::print_decimal(1, self.record);
         io::write_all(1, b", call ");
         io::print_decimal(1, self.call);
         io::write_all(1, b": ");
-        io::write_all(1, whose);
-        io::write_all(1, part);
+        io::write_all(1, pair.whose);
+        io::write_all(1, pair.part);
         io::write_all(1, b" at ");
-        io::print_decimal(1, index as u64);
+        io::print_decimal(1, pair.index as u64);
         io::write_all(1, b": ours ");
-        io::print_hex(1, u64::from(ours), 8);
+        io::print_hex(1, u64::from(pair.ours), 8);
         io::write_all(1, b", the original's ");
-        io::print_hex(1, u64::from(theirs), 8);
+        io::print_hex(1, u64::from(pair.theirs), 8);
         io::write_all(1, b"\n");
     }
 
     // Compares two words. Of the differences no more are told than are of use.
-    fn compare(&mut self, whose: &[u8], part: &[u8], index: usize, ours: u32, theirs: u32) {
-        if ours != theirs {
+    fn compare(&mut self, pair: Pair) {
+        if pair.ours != pair.theirs {
             self.differences = self.differences.saturating_add(1);
             if self.differences <= 60 {
-                self.tell(whose, part, index, ours, theirs);
+                self.tell(pair);
             }
         }
     }
 
-    pub fn same(&mut self, what: &[u8], index: usize, ours: u32, theirs: u32) {
-        self.compare(what, b"", index, ours, theirs);
+    // Compares what stands at an index.
+    pub fn same<T: Word>(&mut self, what: &[u8], index: usize, ours: T, theirs: T) {
+        self.compare(Pair {
+            whose: what,
+            part: b"",
+            index,
+            ours: ours.word(),
+            theirs: theirs.word(),
+        });
     }
 
-    pub fn same_count(&mut self, what: &[u8], index: usize, ours: usize, theirs: usize) {
-        self.same(what, index, narrow(ours), narrow(theirs));
-    }
-
-    pub fn same_float(&mut self, what: &[u8], index: usize, ours: f32, theirs: f32) {
-        self.same(what, index, bits(ours), bits(theirs));
-    }
-
-    pub fn same_bytes(&mut self, what: &[u8], ours: &[u8], theirs: &[u8]) {
-        self.same_count(what, 0, ours.len(), theirs.len());
+    // Compares two lists: their lengths, then what they hold.
+    pub fn same_all<T: Word + Copy>(&mut self, what: &[u8], ours: &[T], theirs: &[T]) {
+        self.same(what, 0, ours.len(), theirs.len());
         for (i, (a, b)) in ours.iter().zip(theirs).enumerate() {
-            self.same(what, i, u32::from(*a), u32::from(*b));
+            self.same(what, i, *a, *b);
         }
     }
 
-    pub fn same_floats(&mut self, what: &[u8], ours: &[f32], theirs: &[f32]) {
-        for (i, (a, b)) in ours.iter().zip(theirs).enumerate() {
-            self.same_float(what, i, *a, *b);
-        }
+    fn same_part<T: Word>(&mut self, whose: &[u8], part: &[u8], ours: T, theirs: T) {
+        self.compare(Pair {
+            whose,
+            part,
+            index: 0,
+            ours: ours.word(),
+            theirs: theirs.word(),
+        });
     }
 
     // Compares two answers, of which `whose` says what answered.
     pub fn same_answer(&mut self, whose: &[u8], ours: Answer, theirs: Answer) {
-        self.compare(whose, b" number", 0, ours.number, theirs.number);
-        self.compare(
-            whose,
-            b" first value",
-            0,
-            narrow(ours.first),
-            narrow(theirs.first),
-        );
-        self.compare(
-            whose,
-            b" second value",
-            0,
-            narrow(ours.second),
-            narrow(theirs.second),
-        );
+        self.same_part(whose, b" number", ours.number, theirs.number);
+        self.same_part(whose, b" first value", ours.first, theirs.first);
+        self.same_part(whose, b" second value", ours.second, theirs.second);
     }
 }
