@@ -1,5 +1,5 @@
 // Two tables made one.
-ghost use Rattle.std.specs.Prelude.{◌≡◌, length};
+ghost use Rattle.std.specs.Prelude.{◌≡◌, ◌≤◌, length};
 ghost use Rattle.table.specs.Decode.{decode};
 ghost use Rattle.merging.specs.Merge.{merging, MergeLeaves};
 ghost use Rattle.sounder.specs.Merges.{merge_answer};
@@ -13,6 +13,7 @@ pub extern "C" fn sounder_merge(first: &[u8], second: &[u8], target: &mut [u8]) 
         ≡ merge_answer (merging (decode first.now) (decode second.now) (length target.old)) }
     ensures left { MergeLeaves (decode first.now) (decode second.now)
         target.old target.new }
+    ensures fits { result.answer.number ≡ 0 → result.answer.second ≤ length target.new }
 {
     merges::sounder_merge(first, second, target)
 }
