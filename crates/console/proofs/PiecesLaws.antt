@@ -20,7 +20,8 @@ module _ {S A B C E F : Type 0} (steps : S → Option A → S → Type 0) (v : A
   wrong-stays e [] = refl
   wrong-stays e (y ∷ ys) = rw (stays e y) (wrong-stays e ys)
 
-  at_end : (o : Option A) (ys : List C) (t : S) → q.0 ≡ f → AlwaysYields steps v t ys → steps t o u → MatchOption o W L → r ≡ fold after (Ok q.1) ys
+  at_end : (o : Option A) (ys : List C) (t : S) → q.0 ≡ f → AlwaysYields steps v t ys → steps t o u → MatchOption o W L →
+      r ≡ fold after (Ok q.1) ys
   at_end None [] t k a s d = whole d
   at_end None (y ∷ ys) t k a s d = absurd (a.0 u s)
   at_end (Some x) [] t k a s d = absurd (a x u s)
@@ -40,7 +41,8 @@ module _ {S A B C E F : Type 0} (steps : S → Option A → S → Type 0) (v : A
       rw e (turns xs ys o y.0 t c.0 m.0 n.1 y.2 c.2 l d)
 
 -- what `try_fold` gives where each call of f gives what `after` makes of it
-pub pieces_folded : {S A B C E F : Type 0} {steps : S → Option A → S → Type 0} {v : A → C} {s : S} {ys : List C} {f : F} {init : B} {r : Result B E} (u : S)
+pub pieces_folded : {S A B C E F : Type 0} {steps : S → Option A → S → Type 0} {v : A → C}
+    {s : S} {ys : List C} {f : F} {init : B} {r : Result B E} (u : S)
     (g : Mut F (B × (A × Unit {0})) (Result B E)) (after : Result B E → C → Result B E) → ((e : E) (y : C) → after (Err e) y ≡ Err e) →
     ((b : B) (x : A) (w : Result B E) (h : F) → Called g f (b, (x, tt)) w h → (h ≡ f) × (w ≡ after (Ok b) (v x))) →
     TryFoldsItems steps g (λ w c. w ≡ result_from_control_flow c) (λ e w. IsErr w × IsErrAnd w (λ y. y ≡ e.0)) s f init r u →

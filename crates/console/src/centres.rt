@@ -85,7 +85,8 @@ impl Centres {
     }
 }
 
-// The centres that a text holds, or its first line that is none.
+// The centres that a text holds, or its first line that is none. (The plans' reader has the same expression over a step of its own: a
+// function of both would need a clause for any step, longer than the expression, and is no plainer.)
 pub fn read(text: &[u8]) -> Result<Centres, CentresError>
     ensures { result ≡ centres_of text.now }
 {

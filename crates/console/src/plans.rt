@@ -199,7 +199,7 @@ impl Planned {
     }
 }
 
-// The windows that a text holds, or its first line that is none.
+// The windows that a text holds, or its first line that is none. (Like the reader of centres, which says why that is no function of both.)
 pub fn read(text: &[u8]) -> Result<Planned, BadLine>
     ensures { result ≡ plan_of text.now }
 {
