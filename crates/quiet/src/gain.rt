@@ -9,8 +9,8 @@ use crate::limits::{MAX_WINDOWS, WEEK_MINUTES};
 use crate::plan::{Plan, Window};
 use crate::window::step_gain;
 
-// The first window with an edge that is no minute of the week. (This and the next two are one line each: one function over a closure for the
-// test would promise no search by its name.)
+// The first window with an edge that is no minute of the week. (This and the next two are one line each: one function over a closure for
+// the test would promise no search by its name.)
 fn first_bad_edge(windows: &[Window]) -> Option<usize>
     ensures { result ≡ position (λ v. not (edges_ok v)) windows.now }
 {
