@@ -1,10 +1,12 @@
 -- A single voice with all its bands live keeps the voice rules, and is all but its list as it was.
-use mathlib.Core.Path.{◌≡◌, refl, ◌∙◌}
+use mathlib.Core.Path.{◌≡◌, refl, ap, sym, ◌∙◌}
 use mathlib.Core.Bool.{Bool, true, false, ◌&&◌, cond}
-use mathlib.Core.List.{List, ◌++◌}
+use mathlib.Core.List.{List, [], ◌∷◌}
 use Prim.Native.Nat.{ℕ, ◌+◌, ◌-◌, ◌≤◌, ◌<◌}
 use native.Mathlib.Omega.{arith}
-use lib.ListN.{length, drop, get_or, replicate, get_or-append}
+use lib.ListN.{length, take, get_or, get_or-append}
+use lib.Seq.{get_or-take, length-take-le}
+use borrow.Author.Tests.{eq-eqb}
 use lib.Ieee.{Float}
 use lib.Dec.{eqb, ltb, leb, lt→ltb}
 use lib.Ieee.Bits.{is_true}
@@ -13,22 +15,40 @@ use Rattle.voice.specs.Lists.{up_to, every}
 use Rattle.voice.specs.Voice.{counts_ok, entries_ok, rate_ok, live_ok, rules_of, keeps_rules, bands_ascend}
 use Rattle.voice.specs.declared.voice.Setting.{Setting}
 use Rattle.voice.specs.declared.voice.Voice.{Voice}
-use Rattle.voice.proofs.Loops.{at_every, both_true, length-up_to, up_to-at, drop-replicate}
+use Rattle.voice.proofs.Loops.{at_every, both_true, length-up_to, up_to-at}
 use Rattle.voice.proofs.QuestionLaws.{kept, counts-are}
 use Rattle.player.specs.Bands.{all_bands, all_live, ticking}
+use Rattle.player.specs.inner.Passes.{LiveOf}
 
 below-is : (a b : ℕ) → a < b → ltb a b ≡ true
 below-is a b h = is_true (ltb a b) (lt→ltb a b h)
-
--- what a loop that fills the first j places leaves
-pub bands-full : (j b : ℕ) (l : List ℕ) → b ≡ j → l ≡ up_to (λ i. i) b ++ drop b (replicate max_bands 0) → l ≡ all_bands j
-bands-full j b l e h = rw (h, e, drop-replicate {A = ℕ} 0 j max_bands, length-up_to (λ (i : ℕ). i) j)
 
 -- band b stands in place b
 pub all-at : (j b : ℕ) → b < j → get_or (all_bands j) b 0 ≡ b
 all-at j b h =
     let l : length (up_to (λ (i : ℕ). i) j) ≡ j = length-up_to (λ (i : ℕ). i) j in
     get_or-append (up_to (λ (i : ℕ). i) j) _ 0 b (omega (arith, l, h)) ∙ up_to-at (λ (i : ℕ). i) j b 0 h
+
+-- all bands that there are, as the code lists them
+abbrev listed : List ℕ
+listed = 0 ∷ 1 ∷ 2 ∷ 3 ∷ 4 ∷ 5 ∷ 6 ∷ 7 ∷ 8 ∷ 9 ∷ 10 ∷ 11 ∷ 12 ∷ 13 ∷ 14 ∷ 15 ∷ []
+
+listed-are : listed ≡ up_to (λ (i : ℕ). i) 16
+unfolding up_to
+listed-are = refl
+
+listed-at : (l : ℕ) → l < 16 → get_or listed l 0 ≡ l
+listed-at l h = ap (λ (z : List ℕ). get_or z l 0) listed-are ∙ up_to-at (λ (i : ℕ). i) 16 l 0 h
+
+-- LAW: the first j of them are the bands of a single voice that tick
+pub lists-all : (s : Setting) → s.blend ≡ 0 → s.j ≤ max_bands → LiveOf s (take s.j listed)
+lists-all s z h =
+    let e : length (take s.j listed) ≡ s.j = length-take-le s.j listed h in
+    record {
+      count = rw (eq-eqb _ _ z) e;
+      bands = λ l k. let a : l < s.j = omega arith in
+          rw (eq-eqb _ _ z) (get_or-take s.j listed l 0 a ∙ listed-at l (omega arith) ∙ sym (all-at s.j l a));
+    }
 
 all-below : (j : ℕ) → every (λ i. ltb (get_or (all_bands j) i 0) j) j ≡ true
 all-below j = at_every (λ i. ltb (get_or (all_bands j) i 0) j) j (λ i l. rw (all-at j i l) (below-is i j l))

@@ -4,7 +4,7 @@ use mathlib.Core.List.{List, [], ◌∷◌}
 use mathlib.Core.Bool.{Bool, true, cond}
 use Prim.Native.Nat.{ℕ, zero, suc, ◌+◌, ◌*◌, ◌≤◌, ◌<◌}
 use native.Mathlib.Omega.{arith}
-use lib.ListN.{get_or}
+use lib.ListN.{length, get_or}
 use lib.Dec.{T, eqb}
 use lib.Ieee.{Float, nan, inf, fin, binary32, eq, fits, le}
 use Rattle.float.specs.inner.Range.{Within}
@@ -23,7 +23,6 @@ use Rattle.player.specs.inner.Terms.{partial_added}
 use Rattle.player.specs.inner.Tuning.{PitchAt, Tuned, NoiseTuned, rows_in, constants_at, entries_at, sides_in}
 use Rattle.player.specs.declared.pitch.bracket.Sides.{Sides}
 use Rattle.player.specs.declared.constants.Constants.{Constants}
-use Rattle.player.specs.declared.bands.Live.{Live}
 use Rattle.player.specs.declared.pitch.entries.Entries.{Entries}
 use Rattle.player.specs.declared.pitch.entries.Pitch.{Pitch}
 use Rattle.std.specs.Prelude.{Option, Some}
@@ -72,10 +71,10 @@ pub stays : (v : Voice) (t : Tuning) (f0 : Float) → T (fits binary32 f0) → W
 stays v t f0 F W T g was G U k q = subst (λ (z : Float). TunedTo v z t) (sym (same-kept t.f0 f0 g was T.at F W G U k q)) T
 
 -- the live bands' columns, in the same way
-abbrev pub NoiseTunedTo : Voice → Live → Float → NoiseTuning → Type 0
+abbrev pub NoiseTunedTo : Voice → List ℕ → Float → NoiseTuning → Type 0
 NoiseTunedTo v live f0 t = NoiseTuned (constants_at v.set) (entries_at v.set v.lists) v.noise live f0 t
 
-pub noise-stays : (v : Voice) (live : Live) (t : NoiseTuning) (f0 : Float) → T (fits binary32 f0) → Within 20000 1 f0 → NoiseTunedTo v live f0 t
+pub noise-stays : (v : Voice) (live : List ℕ) (t : NoiseTuning) (f0 : Float) → T (fits binary32 f0) → Within 20000 1 f0 → NoiseTunedTo v live f0 t
     → (g was : Float) → T (fits binary32 g) → Within 20000 1 g → t.f0 ≡ Some was → eq g was ≡ true → NoiseTunedTo v live g t
 noise-stays v live t f0 F W T g was G U k q = subst (λ (z : Float). NoiseTunedTo v live z t) (sym (same-kept t.f0 f0 g was T.at F W G U k q)) T
 
@@ -146,11 +145,11 @@ tuned-is x e partials f0 p freqs incs fades rows k b P F N ek A B C R S =
     }
 
 -- LAW: and so are the live bands' columns
-pub noise-tuned-is : (x : Constants) (e : Entries) (noise : List Float) (live : Live) (f0 : Float) (s : Sides) (rows : List Float) (k : ℕ) (y : Float) → s ≡ sides_in e f0 → k ≡ rows_in x
-    → FilledRows rows (λ q l. noise_row noise s q (get_or live.bands l 0)) k live.count → y ≡ value_between e.noise_gain s
+pub noise-tuned-is : (x : Constants) (e : Entries) (noise : List Float) (live : List ℕ) (f0 : Float) (s : Sides) (rows : List Float) (k : ℕ) (y : Float) → s ≡ sides_in e f0 → k ≡ rows_in x
+    → FilledRows rows (λ q l. noise_row noise s q (get_or live l 0)) k (length live) → y ≡ value_between e.noise_gain s
     → NoiseTuned x e noise live f0 (record { f0 = Some f0; noise_gain = y; rows = rows })
 noise-tuned-is x e noise live f0 s rows k y es ek N ey = record {
   at = refl;
   noise-gain = ey ∙ ap (λ (z : Sides). value_between e.noise_gain z) es;
-  rows_are = record { at = λ q l h a. N.at q l (rw ek h) a ∙ ap (λ (z : Sides). noise_row noise z q (get_or live.bands l 0)) es };
+  rows_are = record { at = λ q l h a. N.at q l (rw ek h) a ∙ ap (λ (z : Sides). noise_row noise z q (get_or live l 0)) es };
 }

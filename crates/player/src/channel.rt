@@ -37,9 +37,9 @@ pub fn channel_of<'a>(timbre: Timbre<'a>, state: &mut State, inputs: Inputs<'a>,
     }
     all_partials(timbre, &mut state.phases, inputs, out);
     let live = live_of(timbre.set);
-    if live.count == 0 {
+    if live.is_empty() {
         return;
     }
-    let rng = noise_pass(timbre, &live, &mut state.memories, state.rng, inputs, out);
+    let rng = noise_pass(timbre, live, &mut state.memories, state.rng, inputs, out);
     state.rng = rng;
 }

@@ -1,7 +1,7 @@
 // What a frequency decides: the steps and fades of the partials, and the coefficients between its two sides.
 // It is kept while the frequency stays. The columns share m: slices would need a clause that their lengths agree. The rows are tables of 32
 // places a row, of which k rows of m places are in use, and no slice is just these.
-ghost use Rattle.std.specs.Prelude.{◌≡◌, true, ◌≤◌, ◌<◌, ◌+◌, get_or, Float};
+ghost use Rattle.std.specs.Prelude.{◌≡◌, true, ◌≤◌, ◌<◌, ◌+◌, length, get_or, Float};
 ghost use Rattle.std.specs.Float.{nan};
 ghost use Rattle.std.specs.Float.Ieee.{eq};
 ghost use Rattle.float.specs.inner.Range.{Within};
@@ -13,7 +13,6 @@ ghost use Rattle.player.specs.Sound.{partial_row, noise_row};
 ghost use Rattle.player.specs.inner.Tuning.{PitchFits, Tuned, NoiseTuned};
 ghost use Rattle.voice.specs.Limits.{max_entries, max_partials, max_blended};
 
-use crate::bands::Live;
 use crate::columns::{all_up_to, fill_rows};
 use crate::constants::Constants;
 use crate::partials::fade::nyquist_fade;
@@ -81,18 +80,18 @@ fn rows_of(rows: &mut [f32; 128], partials: &[f32; 2048], s: Sides, k: usize, m:
 }
 
 // Each channel's coefficients of the live bands.
-fn noise_rows(rows: &mut [f32; 128], noise: &[f32; 1024], live: &Live, s: Sides, k: usize)
+fn noise_rows(rows: &mut [f32; 128], noise: &[f32; 1024], live: &[u8], s: Sides, k: usize)
     requires { SidesIn max_entries s × (k ≤ max_blended) × LiveFits live.now }
-    ensures { FilledRows rows.new (λ q l. noise_row noise.now s q (get_or live.now.bands l 0)) k live.now.count }
+    ensures { FilledRows rows.new (λ q l. noise_row noise.now s q (get_or live.now l 0)) k (length live.now) }
 {
     fill_rows(
         &mut rows[..],
         k,
-        live.count,
+        live.len(),
         |q, l|
-            requires { SidesIn max_entries s × LiveFits live.now × (q < max_blended) × (l < live.now.count) }
-            ensures { result ≡ noise_row noise.entry.now s q (get_or live.entry.now.bands l 0) }
-        { place_between(&noise[..], s, 64, q * 16 + band_of(live.bands[l])) },
+            requires { SidesIn max_entries s × LiveFits live.now × (q < max_blended) × (l < length live.now) }
+            ensures { result ≡ noise_row noise.entry.now s q (get_or live.entry.now l 0) }
+        { place_between(&noise[..], s, 64, q * 16 + band_of(live[l])) },
     );
 }
 
@@ -149,7 +148,7 @@ impl NoiseTuning {
         x: Constants,
         entries: &Entries,
         noise: &[f32; 1024],
-        live: &Live,
+        live: &[u8],
     )
         requires entries_in { PitchFits entries.now f0 }
         requires counts_in { (x.k ≤ max_blended) × LiveFits live.now }

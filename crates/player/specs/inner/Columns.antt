@@ -1,5 +1,5 @@
 -- Columns of live bands: place l of a column belongs to live band l, that is to band `live[l]`. Cited by private functions only.
-use Rattle.std.specs.Prelude.{ℕ, ◌+◌, ◌*◌, ◌<◌, ◌≤◌, ◌≡◌, List, true, cond, pos, get_or, Float}
+use Rattle.std.specs.Prelude.{ℕ, ◌+◌, ◌*◌, ◌<◌, ◌≤◌, ◌≡◌, List, true, cond, pos, length, get_or, Float}
 use Rattle.std.specs.Float.{nan, fin}
 use Rattle.std.specs.Float.Ieee.{ne}
 use Rattle.float.specs.F32.{◌⊕◌, ◌⊗◌, quotient}
@@ -9,16 +9,15 @@ use Rattle.voice.specs.Voice.{band_at, memory_at, with_memory}
 use Rattle.filters.specs.declared.biquad.BiquadCoeffs.{BiquadCoeffs}
 use Rattle.filters.specs.declared.biquad.BiquadState.{BiquadState}
 use Rattle.voice.specs.Limits.{max_bands}
-use Rattle.player.specs.declared.bands.Live.{Live}
 
 -- each of the first n is one of 16 bands
 pub record LiveIn (live : List ℕ) (n : ℕ) : Type 0 where
   pub below : (l : ℕ) → l < n → get_or live l 0 < max_bands
 
 -- bands that tick, of which there are no more than a voice can have
-pub record LiveFits (live : Live) : Type 0 where
-  pub most : live.count ≤ max_bands
-  pub inside : LiveIn live.bands live.count
+pub record LiveFits (live : List ℕ) : Type 0 where
+  pub most : length live ≤ max_bands
+  pub inside : LiveIn live (length live)
 
 -- place l of two columns, and of five rows of 32 places
 abbrev pub state_of_columns : List Float → List Float → ℕ → BiquadState

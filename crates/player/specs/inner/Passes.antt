@@ -1,6 +1,6 @@
 -- A channel in two passes: the partials of all its samples first, and then what the live bands add to each.
 -- Cited by private functions only: a sample's sum has the same order in both, and the state's parts move each by themselves.
-use Rattle.std.specs.Prelude.{ℕ, ◌≤◌, ◌≡◌, true, List, [], get_or, length, Float}
+use Rattle.std.specs.Prelude.{ℕ, ◌≤◌, ◌<◌, ◌≡◌, true, List, [], get_or, length, Float}
 use Rattle.std.specs.Float.{nan}
 use Rattle.filters.specs.inner.Ranges.{Rate}
 use Rattle.voice.specs.Lists.{up_to, steps, every}
@@ -15,7 +15,6 @@ use Rattle.voice.specs.declared.voice.State.{State}
 use Rattle.voice.specs.declared.voice.Voice.{Voice}
 use Rattle.voice.specs.declared.inputs.Inputs.{Inputs}
 use Rattle.player.specs.Bands.{ticking_set}
-use Rattle.player.specs.declared.bands.Live.{Live}
 use Rattle.player.specs.declared.timbre.Timbre.{Timbre}
 use Rattle.voice.specs.Limits.{max_entries, max_partials, max_bands, max_blended, max_samples, max_channels}
 
@@ -108,9 +107,9 @@ abbrev pub noise_of : Timbre → List Float → Rng → Voice
 noise_of t memories rng = noise_voice (ticking_set t.set.now) t.lists.now t.noise.now memories rng
 
 -- the bands that tick, as they are handed to the pass
-pub record LiveOf (s : Setting) (live : Live) : Type 0 where
-  pub count : live.count ≡ (ticking_set s).live_count
-  pub bands : live.bands ≡ (ticking_set s).live
+pub record LiveOf (s : Setting) (live : List ℕ) : Type 0 where
+  pub count : length live ≡ (ticking_set s).live_count
+  pub bands : (l : ℕ) → l < length live → get_or live l 0 ≡ get_or (ticking_set s).live l 0
 
 -- ---- what a pass and a channel promise, by their frequencies, gains and number of samples: the state that they leave, and the samples
 pub record PartialsPlayed (v : Voice) (freq : ℕ → Float) (g : ℕ → List Float) (n : ℕ) (phases out : List Float) : Type 0 where

@@ -1,5 +1,5 @@
 -- What a frequency decides of a sample, as columns hold it while the frequency stays. Cited by private functions only.
-use Rattle.std.specs.Prelude.{cond, ◌≡◌, true, List, ℕ, ◌+◌, ◌≤◌, Some, get_or, eqb, Float}
+use Rattle.std.specs.Prelude.{cond, ◌≡◌, true, List, ℕ, ◌+◌, ◌≤◌, Some, length, get_or, eqb, Float}
 use Rattle.std.specs.Float.{nan}
 use Rattle.std.specs.Float.Ieee.{le}
 use Rattle.float.specs.F32.{◌⊗◌, quotient}
@@ -14,7 +14,6 @@ use Rattle.player.specs.Bracket.{bracket_of, sides_of, value_between}
 use Rattle.player.specs.Sound.{partial_row, noise_row}
 use Rattle.player.specs.inner.Columns.{Filled, FilledRows}
 use Rattle.player.specs.inner.Ranges.{AllSteps, SidesIn}
-use Rattle.player.specs.declared.bands.Live.{Live}
 use Rattle.player.specs.declared.constants.Constants.{Constants}
 use Rattle.player.specs.declared.pitch.bracket.Sides.{Sides}
 use Rattle.player.specs.declared.pitch.entries.Entries.{Entries}
@@ -78,7 +77,7 @@ module _ (x : Constants) (e : Entries) where
     pub rows_are : FilledRows t.rows (λ q i. partial_row partials (sides_in e f0) q i) (rows_in x) x.m
 
   -- the columns of the live bands are those of the frequency f0
-  pub record NoiseTuned (noise : List Float) (live : Live) (f0 : Float) (t : NoiseTuning) : Type 0 where
+  pub record NoiseTuned (noise : List Float) (live : List ℕ) (f0 : Float) (t : NoiseTuning) : Type 0 where
     pub at : t.f0 ≡ Some f0
     pub noise-gain : t.noise_gain ≡ value_between e.noise_gain (sides_in e f0)
-    pub rows_are : FilledRows t.rows (λ q l. noise_row noise (sides_in e f0) q (get_or live.bands l 0)) (rows_in x) live.count
+    pub rows_are : FilledRows t.rows (λ q l. noise_row noise (sides_in e f0) q (get_or live l 0)) (rows_in x) (length live)

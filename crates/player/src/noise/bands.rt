@@ -1,12 +1,11 @@
-// The live bands of a voice as columns: place l belongs to live band l, that is to band `live.bands[l]`.
+// The live bands of a voice as columns: place l belongs to live band l, that is to band `live[l]`.
 // They share their count: slices would need a clause that their lengths agree.
-ghost use Rattle.std.specs.Prelude.{◌≡◌, ◌≤◌, ◌<◌, ◌+◌, ◌*◌, get_or};
+ghost use Rattle.std.specs.Prelude.{◌≡◌, ◌≤◌, ◌<◌, ◌+◌, ◌*◌, length, get_or};
 ghost use Rattle.std.specs.Float.{nan};
 ghost use Rattle.player.specs.inner.Columns.{LiveFits, Memories, Coeffs, Ticked, scattered, Filled};
 ghost use Rattle.player.specs.inner.Bands.{Gathered, Ticks};
 ghost use Rattle.voice.specs.Voice.{bands_at};
 
-use crate::bands::Live;
 use crate::columns::fill_rows;
 use voice::{BANDS_AT, COMPENSATIONS, LISTS_PLACES, band_of, list_of};
 
@@ -21,40 +20,40 @@ pub struct BandColumns {
 }
 
 // The memories of the live bands, which lie two a band in 32 places.
-fn gather_memories(z1: &mut [f32; 32], z2: &mut [f32; 32], memories: &[f32; 32], live: &Live)
+fn gather_memories(z1: &mut [f32; 32], z2: &mut [f32; 32], memories: &[f32; 32], live: &[u8])
     requires { LiveFits live.now }
-    ensures { Memories z1.new z2.new memories.now live.now.bands live.now.count }
+    ensures { Memories z1.new z2.new memories.now live.now (length live.now) }
 {
-    for l in 0..live.count {
-        let at = band_of(live.bands[l]) * 2;
+    for l in 0..live.len() {
+        let at = band_of(live[l]) * 2;
         z1[l] = memories[at];
         z2[l] = memories[at + 1];
     }
 }
 
 // Their coefficients, in five rows: b0, b1, b2, a1, a2.
-fn gather_coeffs(coeffs: &mut [f32; 160], lists: &[f32; LISTS_PLACES], live: &Live)
+fn gather_coeffs(coeffs: &mut [f32; 160], lists: &[f32; LISTS_PLACES], live: &[u8])
     requires { LiveFits live.now }
-    ensures { Coeffs coeffs.new lists.now live.now.bands live.now.count }
+    ensures { Coeffs coeffs.new lists.now live.now (length live.now) }
 {
     fill_rows(
         &mut coeffs[..],
         5,
-        live.count,
+        live.len(),
         |q, l|
-            requires { LiveFits live.now × (q < 5) × (l < live.now.count) }
-            ensures { result ≡ get_or lists.entry.now (bands_at + get_or live.entry.now.bands l 0 * 5 + q) nan }
-        { lists[BANDS_AT + band_of(live.bands[l]) * 5 + q] },
+            requires { LiveFits live.now × (q < 5) × (l < length live.now) }
+            ensures { result ≡ get_or lists.entry.now (bands_at + get_or live.entry.now l 0 * 5 + q) nan }
+        { lists[BANDS_AT + band_of(live[l]) * 5 + q] },
     );
 }
 
 // Their compensations.
-fn gather_makeup(makeup: &mut [f32; 32], compensation: &[f32; 16], live: &Live)
+fn gather_makeup(makeup: &mut [f32; 32], compensation: &[f32; 16], live: &[u8])
     requires { LiveFits live.now }
-    ensures { Filled makeup.new (λ l. get_or compensation.now (get_or live.now.bands l 0) nan) live.now.count }
+    ensures { Filled makeup.new (λ l. get_or compensation.now (get_or live.now l 0) nan) (length live.now) }
 {
-    for l in 0..live.count {
-        makeup[l] = compensation[band_of(live.bands[l])];
+    for l in 0..live.len() {
+        makeup[l] = compensation[band_of(live[l])];
     }
 }
 
@@ -79,12 +78,12 @@ fn tick_bands(
 }
 
 // The columns back into the memories of the live bands.
-fn scatter_memories(memories: &mut [f32; 32], live: &Live, z1: &[f32; 32], z2: &[f32; 32])
+fn scatter_memories(memories: &mut [f32; 32], live: &[u8], z1: &[f32; 32], z2: &[f32; 32])
     requires { LiveFits live.now }
-    ensures { memories.new ≡ scattered live.now.bands z1.now z2.now memories.old live.now.count }
+    ensures { memories.new ≡ scattered live.now z1.now z2.now memories.old (length live.now) }
 {
-    for l in 0..live.count {
-        let at = band_of(live.bands[l]) * 2;
+    for l in 0..live.len() {
+        let at = band_of(live[l]) * 2;
         memories[at] = z1[l];
         memories[at + 1] = z2[l];
     }
@@ -102,7 +101,7 @@ impl BandColumns {
     }
 
     // The columns of these live bands.
-    pub fn gather(&mut self, lists: &[f32; LISTS_PLACES], memories: &[f32; 32], live: &Live)
+    pub fn gather(&mut self, lists: &[f32; LISTS_PLACES], memories: &[f32; 32], live: &[u8])
         requires { LiveFits live.now }
         ensures { Gathered self.new lists.now memories.now live.now }
     {
@@ -120,9 +119,9 @@ impl BandColumns {
     }
 
     // Back into the memories.
-    pub fn scatter(&self, memories: &mut [f32; 32], live: &Live)
+    pub fn scatter(&self, memories: &mut [f32; 32], live: &[u8])
         requires { LiveFits live.now }
-        ensures { memories.new ≡ scattered live.now.bands self.now.z1 self.now.z2 memories.old live.now.count }
+        ensures { memories.new ≡ scattered live.now self.now.z1 self.now.z2 memories.old (length live.now) }
     {
         scatter_memories(memories, live, &self.z1, &self.z2);
     }

@@ -4,7 +4,6 @@ ghost use Rattle.std.specs.Prelude.{◌≡◌, ◌≤◌, length};
 ghost use Rattle.player.specs.Bands.{ticking_set};
 ghost use Rattle.player.specs.inner.Passes.{EntriesFit, LiveFit, LiveOf, FrequenciesFit, NoisePlayed, frequency_in, gains_in, noise_of};
 
-use crate::bands::Live;
 use crate::constants::Constants;
 use crate::input::{frequency_at, gains_at};
 use crate::noise::bands::BandColumns;
@@ -17,7 +16,7 @@ use voice::Inputs;
 
 pub fn noise_pass<'a>(
     timbre: Timbre<'a>,
-    live: &Live,
+    live: &[u8],
     memories: &mut [f32; 32],
     first: Rng,
     inputs: Inputs<'a>,
@@ -30,7 +29,7 @@ pub fn noise_pass<'a>(
 {
     let entries = Entries::of(timbre);
     let x = Constants::of(timbre.set);
-    let n = live.count;
+    let n = live.len();
     let mut bands = BandColumns::new();
     let mut terms: [f32; 32] = [0.0; 32];
     let mut powers: [f32; 32] = [0.0; 32];

@@ -1,7 +1,8 @@
 -- `channel_of` meets its contract.
-use Rattle.std.proofs.Common.{length, sym, ◌∙◌}
+use Rattle.std.proofs.Common.{◌≡◌, length, sym, arith, ◌∙◌}
 use borrow.Author.Tests.{eq-eqb, ne_eqb}
 use lib.Ieee.{of_bits, round}
+use Rattle.std.proofs.lemmas.Grind.{common_steps}
 use Rattle.player.specs.inner.Passes.{frequency_in, gains_in}
 use Rattle.player.proofs.ChannelLaws.{silence-is, ends-still, ends-partials, ends-noisy}
 use Rattle.player.proofs.channel.channel_of.Goals as goal
@@ -14,11 +15,12 @@ returns-then-timbre-eq0 c =
     ends-still a.timbre a.state.now (frequency_in a.inputs) (gains_in a.inputs) n (eq-eqb _ _ c.if-timbre-eq0.true) _
     (silence-is n _ (c.fill.ensures.after (λ y e. e)))
 
-pub returns-then-live-eq0 : goal.returns-then-live-eq0
-returns-then-live-eq0 c =
+pub returns-then-is_empty : goal.returns-then-is_empty
+returns-then-is_empty c =
     let a = c.args in
+    let none : length c.live_of-live.result.now ≡ 0 = grind (arith, common_steps) in
     ends-partials a.timbre a.state.now (frequency_in a.inputs) (gains_in a.inputs) (length a.out.now) (ne_eqb _ _ c.if-timbre-eq0.false)
-    (sym c.live_of-live.ensures.count ∙ c.if-live-eq0.true) _ _ c.all_partials.ensures
+    (sym c.live_of-live.ensures.count ∙ none) _ _ c.all_partials.ensures
 
 pub returns : goal.returns
 returns c =

@@ -13,4 +13,4 @@ loop-l-init c = refl
 pub loop-l-preserved : goal.loop-l-preserved
 loop-l-preserved c =
     rw c.band_of-at.ensures
-    (steps-again (λ l ms. with_memory ms (get_or c.args.live.now.bands l 0) (state_of_columns c.args.z1.now c.args.z2.now l)) _ c.loop-l.memories c.loop-l.l c.loop-l.invariant)
+    (steps-again (λ l ms. with_memory ms (get_or c.args.live.now l 0) (state_of_columns c.args.z1.now c.args.z2.now l)) _ c.loop-l.memories c.loop-l.l c.loop-l.invariant)

@@ -3,4 +3,4 @@ use Rattle.player.specs.inner.Columns.{scattered}
 use Rattle.player.proofs.noise.bands.scatter_memories.Given as goal
 
 abbrev pub invariant-loop-l : goal.invariant-loop-l
-invariant-loop-l l = l.memories ≡ scattered l.live.bands l.z1 l.z2 l.initial.memories l.l
+invariant-loop-l l = l.memories ≡ scattered l.live l.z1 l.z2 l.initial.memories l.l
