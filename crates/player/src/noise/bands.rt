@@ -24,8 +24,8 @@ fn gather_memories(z1: &mut [f32; 32], z2: &mut [f32; 32], memories: &[f32; 32],
     requires { LiveFits live.now }
     ensures { Memories z1.new z2.new memories.now live.now (length live.now) }
 {
-    for l in 0..live.len() {
-        let at = band_of(live[l]) * 2;
+    for (l, band) in live.iter().enumerate() {
+        let at = band_of(*band) * 2;
         z1[l] = memories[at];
         z2[l] = memories[at + 1];
     }
@@ -52,8 +52,8 @@ fn gather_makeup(makeup: &mut [f32; 32], compensation: &[f32; 16], live: &[u8])
     requires { LiveFits live.now }
     ensures { Filled makeup.new (λ l. get_or compensation.now (get_or live.now l 0) nan) (length live.now) }
 {
-    for l in 0..live.len() {
-        makeup[l] = compensation[band_of(live[l])];
+    for (l, band) in live.iter().enumerate() {
+        makeup[l] = compensation[band_of(*band)];
     }
 }
 
@@ -82,8 +82,8 @@ fn scatter_memories(memories: &mut [f32; 32], live: &[u8], z1: &[f32; 32], z2: &
     requires { LiveFits live.now }
     ensures { memories.new ≡ scattered live.now z1.now z2.now memories.old (length live.now) }
 {
-    for l in 0..live.len() {
-        let at = band_of(live[l]) * 2;
+    for (l, band) in live.iter().enumerate() {
+        let at = band_of(*band) * 2;
         memories[at] = z1[l];
         memories[at + 1] = z2[l];
     }
