@@ -29,7 +29,7 @@ struct Run {
     told: Told,
 }
 
-// The pattern of a float; one for every NaN.
+// The pattern of a float; one for every NaN. (Not from a crate below: what an answer is read by is not to come from what is checked.)
 fn bits(x: f32) -> u32 {
     if x.is_nan() { 0x7fc0_0000 } else { x.to_bits() }
 }

@@ -53,8 +53,8 @@ fn frequencies(o: &Options, first: u32, total: u32) -> [f32; 128]
     f
 }
 
-// The pattern of a float; one for every NaN. (The checks of the repository have this line too, each for itself: what a check reads an answer
-// by is not to come from what it checks.)
+// The pattern of a float; one for every NaN. (The checks of the repository have this line too, each for itself: what a check reads an
+// answer by is not to come from what it checks.)
 pub fn bits(x: f32) -> u32 {
     if x.is_nan() { 0x7fc0_0000 } else { x.to_bits() }
 }

@@ -22,6 +22,7 @@ pub fn wrong_value(flag: Flag, text: &[u8], why: &[u8]) -> WrongUse {
     WrongUse
 }
 
+// This and the next differ in what reads the text, in the type and in the words: a function of both would take them all, and is no plainer.
 pub fn whole(flag: Flag, text: &[u8]) -> Result<u32, WrongUse> {
     decimal::read_whole(text).ok_or_else(|| wrong_value(
         flag,
