@@ -6,6 +6,7 @@ ghost use Rattle.player.specs.inner.Passes.{LiveFit, LiveOf};
 
 use voice::Setting;
 
+// Every band that a voice can have.
 const ALL_BANDS: [u8; 16] = [0, 1, 2, 3, 4, 5, 6, 7, 8, 9, 10, 11, 12, 13, 14, 15];
 
 // The bands that tick, in their order.
