@@ -1,6 +1,7 @@
 // Which voices can be made of a table, at 48,000 samples a second.
 use console::{say, words};
 use sounder::images::sounder_desk;
+use sounder::numbers_of;
 use sounder::voices::sounder_make;
 use table::desk::Kind;
 
@@ -15,14 +16,6 @@ fn say_kind(kind: Kind) {
     say::text(1, b": ");
 }
 
-// The library's numbers for a kind: whether it is a blend, and the channel.
-fn numbers(kind: Kind) -> (u32, u32) {
-    match kind {
-        Kind::Single(channel) => (0, channel),
-        Kind::Blend => (1, 0),
-    }
-}
-
 fn say_made(m: usize, k: usize, j: usize) {
     say::text(1, b"can be made, with ");
     say::counted(1, m as u64, b" partial, ", b" partials, ");
@@ -32,7 +25,7 @@ fn say_made(m: usize, k: usize, j: usize) {
 
 // Tries a making, says what became of it, and answers whether the voice was made.
 fn try_making(image: &[u8], kind: Kind, centres: &[f32]) -> bool {
-    let (blend, channel) = numbers(kind);
+    let (blend, channel) = numbers_of(kind);
     let made = sounder_make(blend, channel, image, 48000.0, centres);
     let answer = made.answer;
     if answer.number != 0 {
@@ -47,7 +40,7 @@ fn try_making(image: &[u8], kind: Kind, centres: &[f32]) -> bool {
 
 // With as many centres of 1,000 Hz as the voice needs, up to 16. A voice that needs more is refused by its size.
 fn with_enough(image: &[u8], kind: Kind) -> bool {
-    let (blend, channel) = numbers(kind);
+    let (blend, channel) = numbers_of(kind);
     let desk = sounder_desk(blend, channel, image);
     let enough = [1000.0; 16];
     let j = (desk.bands as usize).min(16);

@@ -17,4 +17,4 @@ mod sounding;
 mod values;
 
 pub use error::MakeError;
-pub use making::{blank_voice, make};
+pub use making::{blank_voice, make, numbers_of};

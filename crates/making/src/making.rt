@@ -43,8 +43,8 @@ pub fn blank_voice() -> Voice
     }
 }
 
-// A kind as a voice, which crosses to C, has it: 0 and the channel of a single voice; 1 and 0 of a blend.
-fn numbers_of(kind: Kind) -> (u32, u32)
+// A kind as a voice and a call have it, which cross to C: 0 and the channel of a single voice; 1 and 0 of a blend.
+pub fn numbers_of(kind: Kind) -> (u32, u32)
     ensures number { result.0 ≡ kind_number kind }
     ensures channel { result.1 ≡ kind_channel kind }
 {

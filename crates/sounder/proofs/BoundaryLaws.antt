@@ -27,6 +27,7 @@ use Rattle.merging.specs.declared.tables.MergeError.{MergeError}
 use Rattle.merging.specs.Merge.{MergeOutcome, written, first_refused, second_refused, merge_refused, joined, merging}
 use Rattle.merging.specs.Answer.{merging_outcome}
 use Rattle.merging.proofs.ResultLaws.{merging-apart}
+use Rattle.making.specs.Making.{kind_number, kind_channel}
 use Rattle.sounder.specs.declared.answer.Answer.{Answer}
 use Rattle.sounder.specs.declared.merges.MergeAnswer.{MergeAnswer}
 use Rattle.sounder.specs.Answer.{refusal_answer, done, kind_of}
@@ -35,6 +36,11 @@ use Rattle.sounder.specs.Merges.{merge_answer}
 pub blend-kind : (n c : ℕ) → (n ≡ 0 → ⊥) → kind_of n c ≡ Kind.Blend
 blend-kind zero c h = absurd (h refl)
 blend-kind (suc n) c h = refl
+
+-- LAW: a kind's numbers lead back to it
+pub kind-back : (k : Kind) → kind_of (kind_number k) (kind_channel k) ≡ k
+kind-back (Kind.Single c) = refl
+kind-back Kind.Blend = refl
 
 -- a string that was read is the part after its length
 text-part : (s : List ℕ) (at e : ℕ) (l : List ℕ) → text s at ≡ ok l e → part s (at + 4) (length l) ≡ l

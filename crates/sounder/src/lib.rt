@@ -14,6 +14,7 @@ pub mod voices;
 
 pub use answer::Answer;
 pub use images::{DeskAnswer, Place};
+pub use making::numbers_of;
 pub use merges::MergeAnswer;
 pub use plans::QuietAnswer;
 pub use voices::MadeAnswer;

@@ -22,9 +22,9 @@ use options::Options;
 use plan::Loudness;
 use playing::bits;
 use reading::Asked;
-use sounder::Answer;
 use sounder::images::{sounder_desk, sounder_from_bytes};
 use sounder::voices::{sounder_make, sounder_reseed};
+use sounder::{Answer, numbers_of};
 use std::fs::File;
 use std::io::Print;
 use std::rt::{Env, Files};
@@ -181,7 +181,7 @@ fn check_pitches(o: &Options) -> Result<(), Failed> {
 }
 
 fn make(o: &Options, image: &[u8], centres: &[f32]) -> Result<Voice, Failed> {
-    let (blend, channel) = o.kind_numbers();
+    let (blend, channel) = numbers_of(o.kind);
     let rate = std::num::nearest_u32_to_f32(o.rate);
     let made = sounder_make(blend, channel, image, rate, centres);
     let answer = made.answer;

@@ -34,14 +34,6 @@ pub struct Options {
 }
 
 impl Options {
-    // The library's numbers for the kind: whether it is a blend, and the channel.
-    pub fn kind_numbers(&self) -> (u32, u32) {
-        match self.kind {
-            Kind::Single(channel) => (0, channel),
-            Kind::Blend => (1, 0),
-        }
-    }
-
     // The pitch, where a glide starts.
     pub fn pitch(&self) -> f32 {
         self.freq.unwrap_or(220.0)
