@@ -13,7 +13,7 @@ pub struct Decimal {
 }
 
 // What is known after some of the text, where it may be the start of a number: the digits so far, how many stood after the point, and
-// whether there was a point and a digit.
+// whether there was a point and a digit. (Flags beside the numbers: an Option of either would be taken apart at each digit.)
 #[derive(Clone, Copy)]
 struct Scan {
     digits: u64,

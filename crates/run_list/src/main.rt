@@ -166,46 +166,31 @@ fn retunes() {
     );
 }
 
-// One sample at a frequency, at gain 1.
-fn at_frequency(what: &[u8], voice: Voice, f: f32) {
+// One sample at a frequency, and at a gain where one is connected.
+fn sounded(what: &[u8], voice: Voice, f: f32, gain: &[f32]) {
     played(
         what,
         voice,
         Shape {
             freq: 1,
+            g0: gain.len(),
             ..block(1, 1)
         },
         &[f],
-        &[],
-        1,
-    );
-}
-
-// One sample at a frequency and a gain.
-fn at_gain(what: &[u8], voice: Voice, f: f32, g: f32) {
-    played(
-        what,
-        voice,
-        Shape {
-            freq: 1,
-            g0: 1,
-            ..block(1, 1)
-        },
-        &[f],
-        &[g],
+        gain,
         1,
     );
 }
 
 fn floats() {
     let v = made(b"a voice", &images::SIXTEEN, 0, 48000.0, &[]);
-    at_frequency(b"20000 Hz", v, 20000.0);
-    at_frequency(b"the float after 20000", v, 20000.001953125);
-    at_frequency(b"a frequency that is no number", v, f32::NAN);
-    at_frequency(b"an infinite frequency", v, f32::INFINITY);
-    at_frequency(b"a negative frequency", v, -220.0);
-    at_gain(b"a gain that is no number", v, 220.0, f32::NAN);
-    at_gain(b"an infinite gain on silence", v, -220.0, f32::INFINITY);
+    sounded(b"20000 Hz", v, 20000.0, &[]);
+    sounded(b"the float after 20000", v, 20000.001953125, &[]);
+    sounded(b"a frequency that is no number", v, f32::NAN, &[]);
+    sounded(b"an infinite frequency", v, f32::INFINITY, &[]);
+    sounded(b"a negative frequency", v, -220.0, &[]);
+    sounded(b"a gain that is no number", v, 220.0, &[f32::NAN]);
+    sounded(b"an infinite gain on silence", v, -220.0, &[f32::INFINITY]);
 }
 
 // A minute of a plan whose windows, and places beyond them, are all alike.
