@@ -45,7 +45,8 @@ pub fn fill_terms<F: Fn(usize) -> f32>(terms: &mut [f32; 32], coeffs: &[f32], n:
     }
 }
 
-// Row q, after the q rows before it.
+// Row q, after the q rows before it. By index: row q lies in the middle of what is lent, and `value` is asked by index. A slice of the row
+// would have to be found again in the rows, by the proof, and would be no plainer.
 fn fill_row<F: Fn(usize, usize) -> f32>(rows: &mut [f32], q: usize, n: usize, value: &F)
     requires { (n ≤ 32) × (q * 32 + 32 ≤ length rows.old) × ((i : ℕ) → i < n → F.pre value.now q i) }
     ensures { (f : ℕ → ℕ → Float) → GivesRows (F.post value.now) (q + 1) n f → FilledRows rows.old f q n → FilledRows rows.new f (q + 1) n }

@@ -5,9 +5,11 @@ ghost use Rattle.player.specs.inner.Tuning.{constants_at, rows_in};
 
 use voice::Setting;
 
+// `blend` is the setting's own number, which the definitions of a sample ask: of a choice by an enum each of them would have to be turned
+// back, and it would be no plainer.
 #[derive(Clone, Copy)]
 pub struct Constants {
-    pub blend: u32, // 0: a single voice. A copy of `Setting.blend`, which crosses to C
+    pub blend: u32, // 0: a single voice
     pub k: usize,
     pub m: usize,
     pub inv: f32, // 1 / rate

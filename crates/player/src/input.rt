@@ -53,11 +53,10 @@ fn read_or(part: &[f32], i: usize, other: f32) -> f32
 fn clean(f: f32) -> f32
     ensures { result ≡ cleaned f }
 {
-    if float::is_finite(f) && 0.0 < f {
-        f
-    } else {
-        0.0
+    if !float::is_finite(f) {
+        return 0.0;
     }
+    if 0.0 < f { f } else { 0.0 }
 }
 
 // The frequency that is played at sample i.

@@ -22,7 +22,7 @@ use crate::pitch::entries::Entries;
 use voice::band_of;
 
 // What a frequency decides of the partials, in columns. It is kept while the frequency stays.
-#[derive(Clone, Copy)]
+#[derive(Clone, Copy, Default)]
 pub struct Tuning {
     f0: Option<f32>, // the frequency, once there is one
     freqs: [f32; 32], // only worked in
@@ -34,7 +34,7 @@ pub struct Tuning {
 }
 
 // What a frequency decides of the live bands, in the same way.
-#[derive(Clone, Copy)]
+#[derive(Clone, Copy, Default)]
 pub struct NoiseTuning {
     f0: Option<f32>,
     pub noise_gain: f32,
@@ -96,20 +96,6 @@ fn noise_rows(rows: &mut [f32; 128], noise: &[f32; 1024], live: &[u8], s: Sides,
 }
 
 impl Tuning {
-    pub fn new() -> Tuning
-        ensures { result.f0 ≡ None }
-    {
-        Tuning {
-            f0: None,
-            freqs: [0.0; 32],
-            mainlobe: 0.0,
-            small: false,
-            incs: [0.0; 32],
-            fades: [0.0; 32],
-            rows: [0.0; 128],
-        }
-    }
-
     // The columns for the frequency f0.
     pub fn tune(&mut self, f0: f32, x: Constants, entries: &Entries, partials: &[f32; 2048])
         requires entries_in { PitchFits entries.now f0 }
@@ -131,16 +117,6 @@ impl Tuning {
 }
 
 impl NoiseTuning {
-    pub fn new() -> NoiseTuning
-        ensures { result.f0 ≡ None }
-    {
-        NoiseTuning {
-            f0: None,
-            noise_gain: 0.0,
-            rows: [0.0; 128],
-        }
-    }
-
     // The live bands' columns for the frequency f0.
     pub fn tune(
         &mut self,

@@ -10,7 +10,7 @@ use crate::columns::fill_rows;
 use voice::{BANDS_AT, COMPENSATIONS, LISTS_PLACES, band_of, list_of};
 
 // Two memories, five coefficients in rows of 32 places, a compensation and the last output of each.
-#[derive(Clone, Copy)]
+#[derive(Clone, Copy, Default)]
 pub struct BandColumns {
     z1: [f32; 32],
     z2: [f32; 32],
@@ -90,16 +90,6 @@ fn scatter_memories(memories: &mut [f32; 32], live: &[u8], z1: &[f32; 32], z2: &
 }
 
 impl BandColumns {
-    pub fn new() -> BandColumns {
-        BandColumns {
-            z1: [0.0; 32],
-            z2: [0.0; 32],
-            coeffs: [0.0; 160],
-            makeup: [0.0; 32],
-            ys: [0.0; 32],
-        }
-    }
-
     // The columns of these live bands.
     pub fn gather(&mut self, lists: &[f32; LISTS_PLACES], memories: &[f32; 32], live: &[u8])
         requires { LiveFits live.now }

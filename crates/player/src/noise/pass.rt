@@ -30,10 +30,10 @@ pub fn noise_pass<'a>(
     let entries = Entries::of(timbre);
     let x = Constants::of(timbre.set);
     let n = live.len();
-    let mut bands = BandColumns::new();
+    let mut bands = BandColumns::default();
     let mut terms: [f32; 32] = [0.0; 32];
     let mut powers: [f32; 32] = [0.0; 32];
-    let mut tuning = NoiseTuning::new();
+    let mut tuning = NoiseTuning::default();
     let mut rng = first;
     bands.gather(timbre.lists, memories, live);
     for (i, sample) in out.iter_mut().enumerate() {

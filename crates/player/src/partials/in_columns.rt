@@ -27,8 +27,8 @@ pub fn partials_in_columns<'a>(
     let wave = waves();
     let mut terms: [f32; 32] = [0.0; 32];
     let mut coeffs: [f32; 32] = [0.0; 32];
-    let mut tuning = Tuning::new();
-    let mut sines = Sines::new();
+    let mut tuning = Tuning::default();
+    let mut sines = Sines::default();
     for (i, sample) in out.iter_mut().enumerate() {
         let gains = gains_at(inputs, i);
         tuning.tune(frequency_at(inputs, i), x, &entries, timbre.partials);

@@ -30,7 +30,7 @@ fn move_each<const SMALL: bool>(phases: &mut [f32; 32], incs: &[f32; 32], m: usi
 // Each by the step that the tuning says.
 pub fn move_phases(phases: &mut [f32; 32], tuning: &Tuning, m: usize)
     requires { (m ≤ max_partials) × (phases_ok phases.old m ≡ true) × AllSteps tuning.now.incs m
-        × (tuning.now.small ≡ every (λ i. le (get_or tuning.now.incs i nan) (quotient 31 32)) m) }
+        × (tuning.now.small ≡ true → every (λ i. le (get_or tuning.now.incs i nan) (quotient 31 32)) m ≡ true) }
     ensures { phases.new ≡ map_to (λ i p. advance_of p (get_or tuning.now.incs i nan)) 0 m phases.old }
 {
     if tuning.small {

@@ -1,4 +1,6 @@
 // The partials of a sample one after the other: every phase moves, and those with a coefficient sound.
+// What they are worked out from is handed side by side, as it lies in the voice, in the table of the wave and in the inputs: the other way
+// holds its columns in structs, and here nothing is laid out beforehand.
 ghost use Rattle.std.specs.Prelude.{◌≡◌, true, ◌≤◌, ◌<◌, ◌+◌, length};
 ghost use Rattle.float.specs.inner.Range.{Within};
 ghost use Rattle.float.specs.F32.{quotient};
@@ -51,18 +53,18 @@ fn add_partial(
     wave: &[u32; 257],
     y: f32,
     coeff: f32,
-    mainlobe: f32,
+    x: Constants,
+    p: Pitch,
     freq: f32,
-    nyquist: f32,
     gain: f32,
-    p: f32,
+    phase: f32,
 ) -> f32
     requires table_is { Table wave.now }
-    requires phase_in { Phase p }
-    ensures { result ≡ add_single y coeff mainlobe (nyquist_fade freq nyquist) gain p }
+    requires phase_in { Phase phase }
+    ensures { result ≡ add_single y coeff p.mainlobe (nyquist_fade freq x.nyquist) gain phase }
 {
     if coeff != 0.0 {
-        y + coeff * mainlobe * nyquist_fade(freq, nyquist) * gain * sine(wave, p)
+        y + coeff * p.mainlobe * nyquist_fade(freq, x.nyquist) * gain * sine(wave, phase)
     } else {
         y
     }
@@ -92,7 +94,7 @@ pub fn sample_of<'a>(
         let phase = advance(phases[i], freq * x.inv);
         phases[i] = phase;
         let coeff = partial_coeff(x, partials, gains, p.s, i);
-        y = add_partial(wave, y, coeff, p.mainlobe, freq, x.nyquist, gain, phase);
+        y = add_partial(wave, y, coeff, x, p, freq, gain, phase);
     }
     y
 }

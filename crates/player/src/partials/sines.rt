@@ -59,7 +59,7 @@ fn values<'a>(sines: &mut [f32; 32], rests: &'a [f32; 32], rises: &'a [f32; 32],
 }
 
 // S of each phase, and the columns that it is worked out in: they are made once for all samples.
-#[derive(Clone, Copy)]
+#[derive(Clone, Copy, Default)]
 pub struct Sines {
     pub values: [f32; 32],
     cells: [f32; 32],
@@ -68,15 +68,6 @@ pub struct Sines {
 }
 
 impl Sines {
-    pub fn new() -> Sines {
-        Sines {
-            values: [0.0; 32],
-            cells: [0.0; 32],
-            rests: [0.0; 32],
-            rises: [0.0; 32],
-        }
-    }
-
     pub fn look_up(&mut self, phases: &[f32; 32], wave: &[f32; 1025], m: usize)
         requires { Waves wave.now × (m ≤ max_partials) × AllPhases phases.now m }
         ensures { Filled self.new.values (λ i. sine_of (get_or phases.now i nan)) m }

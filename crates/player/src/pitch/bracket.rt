@@ -41,16 +41,19 @@ pub fn share(lo: f32, f0: f32, hi: f32) -> f32
     (f0 - lo) / (hi - lo)
 }
 
-pub fn both_sides(b: Bracket) -> Sides
-    ensures { result ≡ sides_of b }
-{
-    match b {
-        Bracket::One(i) => Sides {
-            lo: i,
-            hi: i,
-            t: 0.0,
-        },
-        Bracket::Between(lo, hi, t) => Sides { lo, hi, t },
+// One entry stands on both sides.
+impl From<Bracket> for Sides {
+    ghost from_gives = { λ b s. s ≡ sides_of b };
+
+    fn from(b: Bracket) -> Sides {
+        match b {
+            Bracket::One(i) => Sides {
+                lo: i,
+                hi: i,
+                t: 0.0,
+            },
+            Bracket::Between(lo, hi, t) => Sides { lo, hi, t },
+        }
     }
 }
 

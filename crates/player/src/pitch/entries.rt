@@ -6,13 +6,15 @@ ghost use Rattle.player.specs.Bracket.{bracket_of, sides_of};
 ghost use Rattle.player.specs.inner.Tuning.{PitchFits, PitchAt, entries_at, sides_in};
 ghost use Rattle.player.specs.inner.Ranges.{SidesIn};
 
-use crate::pitch::bracket::{Bracket, Sides, both_sides, last_not_above, share, value_between};
+use crate::pitch::bracket::{Bracket, Sides, last_not_above, share, value_between};
 use crate::pitch::stretch::stretch_between;
 use crate::timbre::Timbre;
 use voice::{MAINLOBE_GAINS, NOISE_GAINS, PITCHES, STRETCHES, list_of};
 
-// What each of the first `count` entries has one of. That they can be looked up is asked where it is needed (`PitchFits`), with what is
-// asked of the frequency: the definition `entries_at` has the entries of any setting, so it could not make them with a ghost field.
+// What each of the first `count` entries has one of: four arrays and a count, copied once a channel out of the voice's lists, which cross to
+// C as one array. A slice of each would need a clause that their lengths agree. That they can be looked up is asked where it is needed
+// (`PitchFits`), with what is asked of the frequency: the definition `entries_at` has the entries of any setting, so it could not make them
+// with a ghost field.
 #[derive(Clone, Copy)]
 pub struct Entries {
     pub count: usize,
@@ -70,7 +72,7 @@ impl Entries {
         ensures value { result ≡ sides_in self.now f0 }
         ensures inside { SidesIn self.now.count result × Within 1 1 result.t }
     {
-        both_sides(self.bracket_at(f0))
+        Sides::from(self.bracket_at(f0))
     }
 
     pub fn pitch_at(&self, f0: f32) -> Pitch

@@ -17,6 +17,7 @@ fn stretch_of(lo: f32, hi: f32, t: f32) -> f32
     float::lerp(lo, hi, t)
 }
 
+// Beside `value_between`, because its contract says the range of the result, for which the stretches must be in theirs.
 pub fn stretch_between(l: &[f32; 16], s: Sides) -> f32
     requires { SidesIn max_entries s × (stretch_ok (get_or l.now s.lo nan) ≡ true)
         × (stretch_ok (get_or l.now s.hi nan) ≡ true) × Within 1 1 s.t }

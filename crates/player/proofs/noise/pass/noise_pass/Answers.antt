@@ -15,7 +15,7 @@ loop-i-init c =
     let v = noise_of a.timbre a.memories.now a.first in
     let L = c.requires.2 in (
       noise-out-first v (frequency_in a.inputs) (gains_in a.inputs) a.out.now,
-      bands-at-first v c.requires.1 a.live.now L.count L.bands c.told-memories c.gather.new.self c.new-tuning.result c.gather.ensures c.new-tuning.ensures,
+      bands-at-first v c.requires.1 a.live.now L.count L.bands c.told-memories c.gather.new.self c.default-tuning.result c.gather.ensures c.default-tuning.ensures.0,
     )
 
 pub tune-requires : goal.tune-requires

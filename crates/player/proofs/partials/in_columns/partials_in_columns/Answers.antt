@@ -12,7 +12,7 @@ loop-i-init c =
     let a = c.args in
     let v = partials_of a.timbre a.phases.now in (
       partials-out-first v (frequency_in a.inputs) (gains_in a.inputs) a.out.now,
-      partials-at-first v (frequency_in a.inputs) (gains_in a.inputs) c.new-tuning.result c.requires.1 c.new-tuning.ensures,
+      partials-at-first v (frequency_in a.inputs) (gains_in a.inputs) c.default-tuning.result c.requires.1 c.default-tuning.ensures.0,
     )
 
 pub tune-requires : goal.tune-requires
