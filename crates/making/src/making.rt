@@ -68,7 +68,7 @@ impl Entries<'_> {
         let bands = live.bands;
         let sorted = self.gather(kind);
         let image = self.image;
-        let views = sorted.entries();
+        let views = sorted.as_slice();
         let kept = Entries { image, views };
         let lists = lists_of(kept.columns(), centres_list(centres));
         let (blend, channel) = numbers_of(kind);

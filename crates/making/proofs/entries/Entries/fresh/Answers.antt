@@ -33,10 +33,10 @@ returns c =
     let sounds = c.sounding-sounding.ensures in
     let jj = c.requires.centres_all in
     let live = c.live_bands-live.ensures ∙ ap (λ (s : Sounding). live_of (live_bands s.kind es (length centres))) sounds in
-    let views = c.entries-views.result.now in
-    let kept : viewed image views ≡ vs = ap (viewed image) c.entries-views.ensures.value ∙ c.gather-sorted.ensures in
+    let views = c.as_slice-views.result.now in
+    let kept : viewed image views ≡ vs = ap (viewed image) c.as_slice-views.ensures.value ∙ c.gather-sorted.ensures in
     let count : length views ≡ length vs = sym (length-map views (entry_at image)) ∙ ap length kept in
-    let few : length vs ≤ 16 = omega (arith, count, c.entries-views.ensures.few, ap length c.entries-views.ensures.value) in
+    let few : length vs ≤ 16 = omega (arith, count, c.as_slice-views.ensures.fits, ap length c.as_slice-views.ensures.value) in
     voice-eq
     (setting-eq c.numbers_of-blend.ensures.number c.numbers_of-blend.ensures.channel count (ap (λ (s : Sounding). s.channels) sounds) (c.phase_count-m.ensures ∙ ap (λ (s : Sounding). phase_count s.kind s.channels es) sounds) jj
     (ap (λ (x : Live). x.count) live ∙ ap (λ (n : ℕ). length (live_bands kind es n)) jj)
