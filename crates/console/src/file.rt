@@ -8,7 +8,7 @@ use std::io::Read;
 use std::rt::{Env, Files};
 
 // Reads until the buffer is full or the file ends, which it says by giving no byte, and answers how many bytes that were. A file longer
-// than the buffer fills it.
+// than the buffer fills it. (How far a turn goes is what the file gives: there is no range to go through.)
 fn read_all<F: Read>(file: &mut F, buf: &mut [u8]) -> std::io::Result<usize>
     ensures { IfOk result (λ n. IsPrefixLen n buf.new) }
 {

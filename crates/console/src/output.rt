@@ -117,7 +117,8 @@ pub fn name<R: Files + Env>(
     Ok(n)
 }
 
-// Puts .part after a name of n bytes, and answers how long the two are; nothing where there is no room.
+// Puts .part after a name of n bytes, and answers how long the two are; nothing where there is no room. (The buffer is the caller's, and of
+// a fixed length: nothing is allocated.)
 fn put_part(path: &mut [u8], n: usize) -> Option<usize>
     ensures { PartNamed result path.new }
 {

@@ -30,7 +30,7 @@ fn fill_each<F: Fn(f32) -> f32>(roots: &mut [f32], xs: &[f32], f: F)
     }
 }
 
-// The sum of the faults.
+// The sum of the faults: all are asked, with no way out at the first, so that a machine can test several at a time.
 fn faults(roots: &[f32], xs: &[f32]) -> u32
     requires as_long { length roots.now ≡ length xs.now }
     requires few { length xs.now ≤ 16777216 }

@@ -17,8 +17,8 @@ use table::entry::{EntryView, has_channel};
 use voice::MAX_BLENDED;
 
 impl Entry<'_> {
-    // How far the partials of a channel reach: the place after the last that is not 0. (A chain of `rev`, `find` and `map_or` is no
-    // plainer.)
+    // How far the partials of a channel reach: the place after the last that is not 0. (By `rev`, `find` and `map_or` the answer, which is
+    // one more than what is found, would stand apart from the test that finds it.)
     fn reach_of(&self, c: u32) -> u32
         ensures { result ≡ partial_reach (entry_in self.now) c self.now.view.m_partials }
     {

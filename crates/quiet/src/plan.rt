@@ -11,7 +11,8 @@ pub struct Window {
     pub step: u32,
 }
 
-// The first `count` windows are the plan; the places beyond are never looked at.
+// The first `count` windows are the plan; the places beyond are never looked at. (It crosses to C, and lies in flash there: an array and a
+// count.)
 #[repr(C)]
 #[derive(Clone, Copy)]
 pub struct Plan {

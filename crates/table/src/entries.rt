@@ -1,5 +1,6 @@
 // The entries of an image, read one after the other. (Three loops of the crate go on by `d`, where the last entry ended: an iterator would
-// hold it, but this one needs each index and the end of the last entry too, and would keep both beside it.)
+// hold it, but this one needs each index and the end of the last entry too, and would keep both beside it. `bands_among` and `entry_among`
+// end at an entry that is not there, which an iterator would answer as an error of each item.)
 ghost use Rattle.std.specs.Prelude.{◌≡◌};
 ghost use Rattle.table.specs.declared.span.Baseline.{Baseline};
 ghost use Rattle.table.specs.Image.{entries};

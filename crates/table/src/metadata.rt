@@ -1,4 +1,6 @@
-// The metadata of an entry: pairs of a string and a float's bits, in the image's order.
+// The metadata of an entry: pairs of a string and a float's bits, in the image's order. (An image and a view of it, or a cursor over it, go
+// side by side here and in the crate's public functions: a struct of the two would be put together for one question and taken apart in
+// it. Making, which asks an entry many, has one: `Entry`.)
 ghost use Rattle.std.specs.Prelude.{◌≡◌, true};
 ghost use Rattle.wire.specs.Parse.{many};
 ghost use Rattle.table.specs.Table.{metadata_value};

@@ -21,7 +21,8 @@ pub enum Span {
     Lone,
 }
 
-// What the entries so far agree on, or the first that broke it (first_entry and index).
+// What the entries so far agree on, or the first that broke it (first_entry and index). It is kept and not answered at once, so this is no
+// Result: a later entry that does not read is said first (questions 2 to 6, then 7).
 #[derive(Clone, Copy)]
 pub enum Baseline {
     Start,

@@ -9,7 +9,8 @@ use crate::header::head_at;
 use crate::limits::MAX_VIEWS;
 use crate::read::Counts;
 
-// What `from_bytes` answers to an accepted image, and a view of each of its first 16 entries; past the last, of nothing.
+// What `from_bytes` answers to an accepted image, and a view of each of its first 16 entries; past the last, of nothing. (An array, since
+// nothing is allocated; `counts` says how many entries there are, which may be more.)
 #[derive(Clone, Copy)]
 pub struct Views {
     pub counts: Counts,

@@ -86,7 +86,7 @@ fn steady(x: Option<f32>) -> [f32; 128]
 
 // How many channels an input has: 0 where nothing was given, and it is unconnected.
 fn connected(given: bool) -> usize {
-    if given { 1 } else { 0 }
+    usize::from(given)
 }
 
 // A block of one channel.

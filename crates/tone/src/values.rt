@@ -48,16 +48,8 @@ fn millionths(d: Decimal) -> Option<u64> {
     if d.negative || 60000000 < d.digits {
         return None;
     }
-    let n = match d.places {
-        0 => d.digits * 1000000,
-        1 => d.digits * 100000,
-        2 => d.digits * 10000,
-        3 => d.digits * 1000,
-        4 => d.digits * 100,
-        5 => d.digits * 10,
-        6 => d.digits,
-        _ => return None,
-    };
+    let left = 6u32.checked_sub(d.places)?;
+    let n = d.digits * 10u64.pow(left);
     if n <= 60000000 { Some(n) } else { None }
 }
 
