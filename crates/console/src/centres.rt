@@ -40,6 +40,7 @@ impl fmt::Display for CentresError {
 }
 
 impl Centres {
+    // None yet: the definition `no_centres`, which a derived `Default` would say by its fields.
     fn none() -> Centres
         ensures { result ≡ no_centres }
     {

@@ -152,6 +152,7 @@ fn place(mut p: Plan, v: Window) -> Plan
 }
 
 impl Planned {
+    // No window yet: the definition `no_windows`, which a derived `Default` would say by its fields.
     fn new() -> Planned
         ensures { result ≡ no_windows }
     {

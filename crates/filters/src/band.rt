@@ -37,7 +37,7 @@ fn band_of(raw: f32, sample_rate: f32) -> Band
     }
 }
 
-// The band that lets nothing through.
+// The band that lets nothing through. (By the name that definitions have for it: a `Default` would say its floats one by one.)
 pub fn zero_coeffs() -> BiquadCoeffs
     ensures { result ≡ zero_coeffs }
 {

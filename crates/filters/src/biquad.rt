@@ -36,6 +36,7 @@ pub struct Tick {
 }
 
 impl BiquadState {
+    // The cleared filter, by the name that definitions have for it.
     pub fn new() -> Self
         ensures { result ≡ cleared }
     {

@@ -16,7 +16,8 @@ use table::desk::Kind;
 use table::views::views_of;
 use voice::{LISTS_PLACES, MAX_ENTRIES, Setting, State, Voice, first_state, init};
 
-// What stands beside a refusal where there is room for a voice too, as at the C interface: all zero, with no entries.
+// What stands beside a refusal where there is room for a voice too, as at the C interface: all zero, with no entries. (Written out, as its
+// definition is: a derived `Default` says the same of each field by itself.)
 pub fn blank_voice() -> Voice
     ensures { result ≡ blank_voice }
 {

@@ -57,7 +57,7 @@ fn record_of<F: Read, P: Fn(&mut Tally, Words)>(file: &mut F, t: &mut Tally, n: 
 fn records<F: Read, P: Fn(&mut Tally, Words)>(file: &mut F, replayed: &P) -> Tally
     requires { P.IsAlwaysCallable replayed.now }
 {
-    let mut t = Tally::new();
+    let mut t = Tally::default();
     for _ in 0..next(file) {
         let n = next(file);
         record_of(file, &mut t, n, replayed);

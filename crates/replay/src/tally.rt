@@ -1,7 +1,7 @@
 // What a replay counts, and how a difference is told.
 use sounder::Answer;
 
-#[derive(Clone, Copy)]
+#[derive(Clone, Copy, Default)]
 pub struct Tally {
     pub record: u64, // the present record and the present call of its list, each from 0
     pub call: u64,
@@ -57,17 +57,6 @@ struct Pair<'a> {
 }
 
 impl Tally {
-    pub fn new() -> Tally {
-        Tally {
-            record: 0,
-            call: 0,
-            calls: 0,
-            samples: 0,
-            differences: 0,
-            answers: [0; 24],
-        }
-    }
-
     // Counts an answer by its number.
     pub fn answered(&mut self, number: u32) {
         if let Some(n) = self.answers.get_mut(number as usize) {

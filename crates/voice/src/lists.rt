@@ -8,7 +8,7 @@ const SHORT_LISTS: usize = 11;
 
 pub const LISTS_PLACES: usize = 176;
 
-// Which is which.
+// Which is which: places in an array that crosses to C, and so numbers.
 pub const PITCHES: usize = 0;
 
 pub const STRETCHES: usize = 1;
