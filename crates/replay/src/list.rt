@@ -8,15 +8,15 @@ pub const FLOATS: usize = 1100;
 #[derive(Clone, Copy)]
 pub struct Words<'a> {
     rest: &'a [u8],
+    whole: usize, // how many bytes the record has
 }
 
 impl<'a> Words<'a> {
     pub fn new(record: &'a [u8]) -> Words<'a> {
-        Words { rest: record }
-    }
-
-    pub fn is_empty(&self) -> bool {
-        self.rest.is_empty()
+        Words {
+            rest: record,
+            whole: record.len(),
+        }
     }
 
     // Leaves out the rest of the record.
@@ -39,6 +39,26 @@ impl<'a> Words<'a> {
 
     pub fn count(&mut self) -> usize {
         self.word() as usize
+    }
+
+    // The count that comes next, which is read again.
+    pub fn ahead(&self) -> usize {
+        let mut ahead = *self;
+        ahead.count()
+    }
+
+    // How many items the record says that come next. Each has more than a byte: where more are said than the record has bytes, no more than
+    // these. What is said and is not there is read as zeros, so that a record which is cut short is found out.
+    pub fn items(&mut self) -> usize {
+        self.count().min(self.whole)
+    }
+
+    // Passes over words.
+    pub fn skip(&mut self, n: usize) {
+        match self.rest.split_at_checked(n.saturating_mul(4)) {
+            Some((_, rest)) => self.rest = rest,
+            None => self.end(),
+        }
     }
 
     pub fn float(&mut self) -> f32 {
@@ -68,13 +88,17 @@ impl<'a> Words<'a> {
         }
     }
 
-    // Floats, put to the start of a buffer.
+    // Floats, put to the start of a buffer; of more than it holds none is taken, and all are passed over.
     pub fn floats<'b>(&mut self, buffer: &'b mut [f32; FLOATS]) -> &'b [f32] {
-        let n = self.count().min(FLOATS);
-        for x in &mut buffer[..n] {
+        let n = self.count();
+        let Some(floats) = buffer.get_mut(..n) else {
+            self.skip(n);
+            return &[];
+        };
+        for x in floats.iter_mut() {
             *x = self.float();
         }
-        &buffer[..n]
+        floats
     }
 
     // A play's input: how many channels it has, and its samples.

@@ -2,25 +2,48 @@
 use crate::list::Words;
 use crate::tally::Tally;
 use std::array;
-use voice::{
-    BANDS_AT, BiquadCoeffs, CENTRES, COMPENSATIONS, LISTS_PLACES, MAINLOBE_GAINS, NOISE_GAINS,
-    PITCHES, STRETCHES, Setting, State, Voice,
-};
+use voice::{BiquadCoeffs, LISTS_PLACES, Rng, Setting, State, Voice};
 
 // The fields of the short lists, of 16 places each: the field's number, its name, where its first place stands, and how far the next is.
+// (Plain numbers, and the zero voice below written out: what an answer is read by is not to come from what is checked.)
 const COLUMNS: [(u32, &[u8], usize, usize); 11] = [
-    (9, b"f0_hz", PITCHES * 16, 1),
-    (10, b"stretch", STRETCHES * 16, 1),
-    (11, b"mainlobe_gain", MAINLOBE_GAINS * 16, 1),
-    (12, b"noise_gain", NOISE_GAINS * 16, 1),
-    (15, b"b0", BANDS_AT, 5),
-    (16, b"b1", BANDS_AT + 1, 5),
-    (17, b"b2", BANDS_AT + 2, 5),
-    (18, b"a1", BANDS_AT + 3, 5),
-    (19, b"a2", BANDS_AT + 4, 5),
-    (20, b"compensation", COMPENSATIONS * 16, 1),
-    (25, b"centres", CENTRES * 16, 1),
+    (9, b"f0_hz", 0, 1),
+    (10, b"stretch", 16, 1),
+    (11, b"mainlobe_gain", 32, 1),
+    (12, b"noise_gain", 48, 1),
+    (15, b"b0", 64, 5),
+    (16, b"b1", 65, 5),
+    (17, b"b2", 66, 5),
+    (18, b"a1", 67, 5),
+    (19, b"a2", 68, 5),
+    (20, b"compensation", 144, 1),
+    (25, b"centres", 160, 1),
 ];
+
+// The voice that is all zero.
+pub fn blank() -> Voice {
+    Voice {
+        set: Setting {
+            blend: 0,
+            channel: 0,
+            count: 0,
+            k: 0,
+            m: 0,
+            j: 0,
+            live_count: 0,
+            sample_rate: 0.0,
+            live: [0; 16],
+        },
+        lists: [0.0; LISTS_PLACES],
+        partials: [0.0; 2048],
+        noise: [0.0; 1024],
+        state: State {
+            phases: [0.0; 32],
+            memories: [0.0; 32],
+            rng: Rng { state: 0 },
+        },
+    }
+}
 
 // The place of a column that starts at one place, at the i-th step from it.
 fn place(start: usize, step: usize, i: usize) -> usize {
@@ -33,7 +56,7 @@ fn column(list: &[f32], start: usize, step: usize) -> [f32; 16] {
 
 // The coefficients of band i.
 pub fn band(lists: &[f32; LISTS_PLACES], i: usize) -> BiquadCoeffs {
-    let at = |n: usize| lists.get(place(BANDS_AT + n, 5, i)).copied().unwrap_or(0.0);
+    let at = |n: usize| lists.get(place(64 + n, 5, i)).copied().unwrap_or(0.0);
     BiquadCoeffs {
         b0: at(0),
         b1: at(1),
@@ -65,7 +88,7 @@ fn set_live(live: &mut [u8; 16], i: usize, n: u32) {
     }
 }
 
-// A change: the place is field × 65536 + index.
+// A change: the place is field × 65536 + index. A field that is none is taken for the noise number.
 fn set(v: &mut Voice, at: u32, n: u32) {
     let i = (at % 65536) as usize;
     let x = float::from_bits(n);
@@ -84,18 +107,15 @@ fn set(v: &mut Voice, at: u32, n: u32) {
         21 => put(&mut v.state.phases, i, x),
         22 => put(&mut v.state.memories, place(0, 2, i), x),
         23 => put(&mut v.state.memories, place(1, 2, i), x),
-        24 => v.state.rng.state = n,
-        field => set_column(&mut v.lists, field, i, x),
+        field @ (9..=12 | 15..=20 | 25) => set_column(&mut v.lists, field, i, x),
+        _ => v.state.rng.state = n,
     }
 }
 
 // The voice with the changes that come next.
 pub fn changed(v: &Voice, w: &mut Words) -> Voice {
     let mut changed = *v;
-    for _ in 0..w.count() {
-        if w.is_empty() {
-            return changed;
-        }
+    for _ in 0..w.items() {
         let at = w.word();
         set(&mut changed, at, w.word());
     }

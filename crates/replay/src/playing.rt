@@ -2,10 +2,9 @@
 // `t`, where differences are told, and `w`, the words that are left, go side by side, and `voice` where a call moves it on: with
 // one struct of them a line as `t.same(b"a sample", i, *x, w.float())` would only name that struct twice, which is no plainer.
 use crate::list::{FLOATS, Words};
-use crate::places::{band, changed, same_voice, without_unread};
+use crate::places::{band, blank, changed, same_voice, without_unread};
 use crate::tally::Tally;
 use filters::biquad_noise_power_gain;
-use making::blank_voice;
 use sounder::voices::{sounder_make, sounder_play, sounder_reseed, sounder_reset, sounder_retune};
 use voice::{LISTS_PLACES, Played, Shape, Voice};
 
@@ -92,10 +91,7 @@ fn call(t: &mut Tally, w: &mut Words, voice: &mut Voice) {
 }
 
 fn calls(t: &mut Tally, w: &mut Words, mut voice: Voice) {
-    for i in 0..w.count() {
-        if w.is_empty() {
-            break;
-        }
+    for i in 0..w.items() {
         t.call = i as u64;
         t.calls = t.calls.saturating_add(1);
         call(t, w, &mut voice);
@@ -123,15 +119,18 @@ pub fn record(t: &mut Tally, mut w: Words) {
     let image = w.bytes();
     let rate = w.float();
     let mut buffer = [0.0; FLOATS];
+    let said = w.ahead();
     let centres = w.floats(&mut buffer);
     let m = sounder_make(kind, channel, image, rate, centres);
     t.answered(m.answer.number);
     let theirs = w.answer();
     t.same_answer(b"the making's", m.answer, theirs);
-    let fresh = changed(&blank_voice(), &mut w);
+    let fresh = changed(&blank(), &mut w);
     same_voice(t, &without_unread(&m.voice), &fresh);
     if theirs.number == 0 {
         rung(t, &mut w, &m.voice.lists, rate, centres);
+        // two words a centre, also where there were too many to take
+        w.skip(said.saturating_sub(centres.len()).saturating_mul(2));
         calls(t, &mut w, m.voice);
     }
 }
