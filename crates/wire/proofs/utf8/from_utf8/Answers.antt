@@ -6,4 +6,4 @@ use Rattle.wire.proofs.utf8.from_utf8.Goals as goal
 pub returns : goal.returns
 returns c =
     let r = c.from_utf8.result in
-    c.is_ok.ensures.value ∙ tested c.args.s.now r (MatchResult-weaker r c.from_utf8.ensures.cases (λ x h. h.1) (λ y h. h.0))
+    c.is_ok.ensures.value ∙ tested c.args.s.now r (MatchResult-weaker r c.from_utf8.ensures (λ x h. h.1) (λ y h. h))
