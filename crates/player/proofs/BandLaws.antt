@@ -12,13 +12,13 @@ use lib.Dec.{eqb, ltb, leb, lt→ltb}
 use lib.Ieee.Bits.{is_true}
 use Rattle.voice.specs.Limits.{max_bands}
 use Rattle.voice.specs.Lists.{up_to, every}
-use Rattle.voice.specs.Voice.{counts_ok, entries_ok, rate_ok, live_ok, rules_of, keeps_rules, bands_ascend}
+use Rattle.voice.specs.Voice.{counts_ok, entries_ok, rate_ok, live_ok, phases_ok, rules_of, keeps_rules, bands_ascend}
 use Rattle.voice.specs.declared.voice.Setting.{Setting}
 use Rattle.voice.specs.declared.voice.Voice.{Voice}
 use Rattle.voice.proofs.Loops.{at_every, both_true, length-up_to, up_to-at}
 use Rattle.voice.proofs.QuestionLaws.{kept, counts-are}
-use Rattle.player.specs.Bands.{all_bands, all_live, ticking}
-use Rattle.player.specs.inner.Passes.{LiveOf}
+use Rattle.player.specs.Bands.{all_bands, all_live, ticking_set, ticking}
+use Rattle.player.specs.inner.Passes.{EntriesFit, LiveFit, LiveOf}
 
 below-is : (a b : ℕ) → a < b → ltb a b ≡ true
 below-is a b h = is_true (ltb a b) (lt→ltb a b h)
@@ -49,6 +49,26 @@ lists-all s z h =
       bands = λ l k. let a : l < s.j = omega arith in
           rw (eq-eqb _ _ z) (get_or-take s.j listed l 0 a ∙ listed-at l (omega arith) ∙ sym (all-at s.j l a));
     }
+
+-- a single voice's bands are no more than there are, where those that tick are
+pub single-most : (s : Setting) → s.blend ≡ 0 → LiveFit (ticking_set s) → s.j ≤ max_bands
+single-most s z K = let F : LiveFit (all_live s) = rw (eq-eqb _ _ z) at K in F.most
+
+-- what the numbers that a voice is played by need of it, its own numbers need: they differ by the list of live bands alone
+entries-alike : (b : Bool) (s : Setting) (lists : List Float) → EntriesFit (cond b (all_live s) s) lists → EntriesFit s lists
+entries-alike true s lists F = record { sizes = F.sizes; pitches-ok = F.pitches-ok; stretches-ok = F.stretches-ok; rate = F.rate }
+entries-alike false s lists F = F
+
+pub entries-ticked : (s : Setting) (lists : List Float) → EntriesFit (ticking_set s) lists → EntriesFit s lists
+entries-ticked s = entries-alike (eqb s.blend 0) s
+
+phases-alike : (b : Bool) (s : Setting) (phases : List Float) → phases_ok phases (cond b (all_live s) s).m ≡ true
+    → phases_ok phases s.m ≡ true
+phases-alike true s phases h = h
+phases-alike false s phases h = h
+
+pub phases-ticked : (s : Setting) (phases : List Float) → phases_ok phases (ticking_set s).m ≡ true → phases_ok phases s.m ≡ true
+phases-ticked s = phases-alike (eqb s.blend 0) s
 
 all-below : (j : ℕ) → every (λ i. ltb (get_or (all_bands j) i 0) j) j ≡ true
 all-below j = at_every (λ i. ltb (get_or (all_bands j) i 0) j) j (λ i l. rw (all-at j i l) (below-is i j l))

@@ -8,7 +8,7 @@ use Rattle.voice.specs.declared.voice.State.{State}
 use Rattle.voice.specs.declared.voice.Voice.{Voice}
 use Rattle.voice.proofs.Loops.{join_to-again, join_to-full, behind, behind-at, behind-sized, behind-first, behind-last, row-end, small_product}
 use Rattle.player.specs.Block.{channel_out, block_out}
-use Rattle.player.specs.inner.Passes.{CallFits, ChannelPlayed, BlockPlayed}
+use Rattle.player.specs.inner.Passes.{BlockFits, ChannelPlayed, BlockPlayed}
 use Rattle.player.proofs.SoundLaws.{length-channel}
 
 -- what channel ch of a call plays
@@ -20,7 +20,7 @@ pub record Behind (v : Voice) (c : Call) (out now : List Float) (ch : ℕ) : Typ
   pub long : length now ≡ c.shape.channels * c.shape.samples
   pub written : now ≡ join_to (behind (take c.shape.samples out) (part v c)) ch ++ drop (ch * c.shape.samples) out
 
-module _ (v : Voice) (c : Call) (B : CallFits c) (out : List Float) (L : length out ≡ c.shape.channels * c.shape.samples) where
+module _ (v : Voice) (c : Call) (B : BlockFits c.shape) (out : List Float) (L : length out ≡ c.shape.channels * c.shape.samples) where
   abbrev n : ℕ
   n = c.shape.samples
 
@@ -29,10 +29,10 @@ module _ (v : Voice) (c : Call) (B : CallFits c) (out : List Float) (L : length 
 
   -- the place of a channel
   pub channel-within : (ch : ℕ) → ch < c.shape.channels → (ch * n + n ≤ c.shape.channels * n) × (c.shape.channels * n ≤ 1024)
-  channel-within ch h = (row-end ch c.shape.channels n h, small_product c.shape.channels n B.block.2 B.block.0)
+  channel-within ch h = (row-end ch c.shape.channels n h, small_product c.shape.channels n B.2 B.0)
 
   pub head_in : (len : ℕ) → len ≡ c.shape.channels * n → n ≤ len
-  head_in len e = omega (arith, row-end 0 c.shape.channels n B.block.1, e)
+  head_in len e = omega (arith, row-end 0 c.shape.channels n B.1, e)
 
   head-long : length (take n out) ≡ n
   head-long = length-take-le n out (head_in (length out) L)
@@ -61,6 +61,6 @@ module _ (v : Voice) (c : Call) (B : CallFits c) (out : List Float) (L : length 
   block-is-played ch now ys end q W P = record {
     ends = P.ends;
     written =
-        behind-last (part v c) n sized (take n out) now ys c.shape.channels head-long B.block.1
+        behind-last (part v c) n sized (take n out) now ys c.shape.channels head-long B.1
         (join_to-full (behind (take n out) (part v c)) n others-sized ch c.shape.channels out now q L W.written) P.written;
   }

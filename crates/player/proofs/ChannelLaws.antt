@@ -16,7 +16,7 @@ use Rattle.player.specs.Bands.{ticking_set, all_live}
 use Rattle.voice.specs.declared.voice.Setting.{Setting}
 use Rattle.player.specs.Sound.{sides_at, moved_phases, moved_memories, moved_rng, partial_term, partial_sum, noise_term, noise_sum, sound, moved}
 use Rattle.player.specs.Block.{state_at, channel_out}
-use Rattle.player.specs.inner.Passes.{frequency_in, gains_in, PartsOf, toned, partials_of, noise_of}
+use Rattle.player.specs.inner.Passes.{partials_voice, noise_voice, frequency_in, gains_in, PartsOf, toned, partials_of, noise_of}
 use Rattle.player.specs.inner.Passes.{phases_at, rng_at, memories_at, partials_out, noisy, noise_out, PartialsPlayed, NoisePlayed, ChannelPlayed}
 use Rattle.filters.specs.declared.rng.Rng.{Rng}
 use Rattle.voice.specs.declared.inputs.Inputs.{Inputs}
@@ -81,7 +81,78 @@ silence-is n ys e = e ∙ go n
     go (suc n) = ap (λ (k : ℕ). replicate k (quotient 0 1)) (sym (add-one n)) ∙ sym (replicate_more n (quotient 0 1)) ∙ ap (λ (z : List Float). z ++ (quotient 0 1 ∷ [])) (go n)
 
 -- ---- the voices of the two passes
--- neither the partials nor the number of entries ask which bands tick
+module _ (set : Setting) (lists partials noise phases memories : List Float) (rng : Rng) (freq : ℕ → Float) (g : ℕ → List Float)
+    (n : ℕ) where
+  abbrev whole : Voice
+  whole = voice_of set lists partials noise (state_of phases memories rng)
+
+  abbrev of_partials : Voice
+  of_partials = partials_voice set lists partials phases
+
+  abbrev noisal : Voice
+  noisal = noise_voice set lists noise memories rng
+
+  of_partials-phases : phases_at of_partials freq n ≡ phases_at whole freq n
+  unfolding phases_at moved_phases sides_at
+  of_partials-phases = refl
+
+  of_partials-out : partials_out of_partials freq g n ≡ partials_out whole freq g n
+  unfolding partials_out phases_at moved_phases partial_sum partial_term sides_at
+  of_partials-out = refl
+
+  noisal-rng : rng_at noisal n ≡ rng_at whole n
+  unfolding rng_at moved_rng
+  noisal-rng = refl
+
+  noisal-memories : memories_at noisal n ≡ memories_at whole n
+  unfolding memories_at moved_memories rng_at moved_rng
+  noisal-memories = refl
+
+  noisal-out : (ys : List Float) → noise_out noisal freq g ys n ≡ noise_out whole freq g ys n
+  unfolding noise_out noisy noise_sum noise_term sides_at memories_at moved_memories rng_at moved_rng
+  noisal-out ys = refl
+
+  abbrev Ends : Rng → List Float → List Float → List Float → Type 0
+  Ends r ps ms ys = ChannelPlayed whole freq g n (state_of ps ms r) ys
+
+  -- LAW: no entry: nothing moves, and it is silent
+  pub ends-still : eqb set.count 0 ≡ true → (ys : List Float) → ys ≡ up_to (λ i. quotient 0 1) n → Ends rng phases memories ys
+  ends-still C ys e = record { ends = still whole freq g n C; written = e ∙ silent whole freq g n C }
+
+  -- the first pass writes every sample
+  pub sized : (ys : List Float) → ys ≡ partials_out of_partials freq g n → length ys ≡ n
+  sized ys e = ap (λ (z : List Float). length z) e ∙ length-partials of_partials freq g n
+
+  -- the state that both passes leave
+  left : eqb set.count 0 ≡ false → (r : Rng) (ps ms : List Float) → ps ≡ phases_at whole freq n → ms ≡ memories_at whole n
+      → r ≡ rng_at whole n → state_of ps ms r ≡ state_at whole freq n
+  left N r ps ms ep em er = rw (ep, em, er) (sym (state-is whole freq g N n))
+
+  -- LAW: no live band: the first pass is all
+  pub ends-partials : eqb set.count 0 ≡ false → set.live_count ≡ 0 → (ps ys : List Float) → PartialsPlayed of_partials freq g n ps ys
+      → Ends rng ps memories ys
+  ends-partials N L ps ys P = record {
+    ends = left N rng ps memories (P.moves ∙ of_partials-phases) (same-memories whole freq g L n) (same-rng whole freq g L n);
+    written =
+        same_out whole freq g L ys n (sized ys P.written) ∙ ap (λ (z : List Float). noise_out whole freq g z n) (P.written ∙ of_partials-out)
+        ∙ out-is whole freq g N n;
+  }
+
+  -- LAW: both passes
+  pub ends-noisy : eqb set.count 0 ≡ false → (r : Rng) (ps ms ys zs : List Float) → PartialsPlayed of_partials freq g n ps ys
+      → NoisePlayed noisal freq g ys (length ys) r ms zs → Ends r ps ms zs
+  ends-noisy N r ps ms ys zs P Q =
+      let e = sized ys P.written in
+      record {
+        ends =
+            left N r ps ms (P.moves ∙ of_partials-phases) (Q.rings ∙ ap (λ (k : ℕ). memories_at noisal k) e ∙ noisal-memories)
+            (Q.steps_on ∙ ap (λ (k : ℕ). rng_at noisal k) e ∙ noisal-rng);
+        written =
+            Q.written ∙ ap (λ (k : ℕ). noise_out noisal freq g ys k) e ∙ noisal-out ys
+            ∙ ap (λ (z : List Float). noise_out whole freq g z n) (P.written ∙ of_partials-out) ∙ out-is whole freq g N n;
+      }
+
+-- ---- the voice that a timbre is played as, with the bands that tick: neither the partials nor the number of entries ask which these are
 module _ (s : Setting) (lists partials noise : List Float) (st : State) (freq : ℕ → Float) (g : ℕ → List Float) (n : ℕ) where
   abbrev with_live : Setting → Voice
   with_live s = voice_of s lists partials noise st
@@ -104,74 +175,38 @@ ticking-count s = go (eqb s.blend 0)
     go false = refl
 
 module _ (t : Timbre) (s : State) (freq : ℕ → Float) (g : ℕ → List Float) (n : ℕ) where
-  abbrev v : Voice
-  v = toned t s
+  abbrev Leaves : State → List Float → Type 0
+  Leaves end ys = ChannelPlayed (toned t s) freq g n end ys
 
-  of_partials-phases : phases_at (partials_of t s.phases) freq n ≡ phases_at v freq n
-  unfolding phases_at moved_phases sides_at
-  of_partials-phases = ticking-phases t.set.now t.lists.now t.partials.now t.noise.now s freq g n (eqb t.set.now.blend 0)
-
-  of_partials-out : partials_out (partials_of t s.phases) freq g n ≡ partials_out v freq g n
-  unfolding partials_out phases_at moved_phases partial_sum partial_term sides_at
-  of_partials-out = ticking-out t.set.now t.lists.now t.partials.now t.noise.now s freq g n (eqb t.set.now.blend 0)
-
-  counted : (b : Bool) → eqb t.set.now.count 0 ≡ b → eqb v.set.count 0 ≡ b
+  counted : (b : Bool) → eqb t.set.now.count 0 ≡ b → eqb (ticking_set t.set.now).count 0 ≡ b
   counted b e = rw (ticking-count t.set.now) e
 
-  of_noise-rng : rng_at (noise_of t s.memories s.rng) n ≡ rng_at v n
-  unfolding rng_at moved_rng
-  of_noise-rng = refl
-
-  of_noise-memories : memories_at (noise_of t s.memories s.rng) n ≡ memories_at v n
-  unfolding memories_at moved_memories rng_at moved_rng
-  of_noise-memories = refl
-
-  of_noise-out : (ys : List Float) → noise_out (noise_of t s.memories s.rng) freq g ys n ≡ noise_out v freq g ys n
-  unfolding noise_out noisy noise_sum noise_term sides_at memories_at moved_memories rng_at moved_rng
-  of_noise-out ys = refl
-
-  abbrev Ends : State → List Float → Type 0
-  Ends end ys = ChannelPlayed v freq g n end ys
-
-  -- LAW: no entry: nothing moves, and it is silent
-  pub ends-still : eqb t.set.now.count 0 ≡ true → (ys : List Float) → ys ≡ up_to (λ i. quotient 0 1) n → Ends s ys
-  ends-still C ys e =
-      let D = counted true C in
-      record { ends = still v freq g n D; written = e ∙ silent v freq g n D }
-
-  -- the first pass writes every sample
-  sized : (ys : List Float) → ys ≡ partials_out (partials_of t s.phases) freq g n → length ys ≡ n
-  sized ys e = ap (λ (z : List Float). length z) e ∙ length-partials (partials_of t s.phases) freq g n
-
-  -- the state that both passes leave
-  left : eqb v.set.count 0 ≡ false → (r : Rng) (ps ms : List Float) → ps ≡ phases_at v freq n → ms ≡ memories_at v n → r ≡ rng_at v n → state_of ps ms r ≡ state_at v freq n
-  left N r ps ms ep em er = rw (ep, em, er) (sym (state-is v freq g N n))
-
-  -- LAW: no live band: the first pass is all
-  pub ends-partials : eqb t.set.now.count 0 ≡ false → v.set.live_count ≡ 0 → (ps ys : List Float) → PartialsPlayed (partials_of t s.phases) freq g n ps ys → Ends (state_of ps s.memories s.rng) ys
-  ends-partials C L ps ys P =
-      let N = counted false C in
+  -- the first pass, of the bands that tick
+  ticked : (ps ys : List Float) → PartialsPlayed (partials_of t s.phases) freq g n ps ys
+      → PartialsPlayed (partials_voice (ticking_set t.set.now) t.lists.now t.partials.now s.phases) freq g n ps ys
+  ticked ps ys P =
+      let none : State = state_of s.phases [] (record { state = 0 }) in
       record {
-        ends = left N s.rng ps s.memories (P.moves ∙ of_partials-phases) (same-memories v freq g L n) (same-rng v freq g L n);
-        written =
-            same_out v freq g L ys n (sized ys P.written) ∙ ap (λ (z : List Float). noise_out v freq g z n) (P.written ∙ of_partials-out) ∙ out-is v freq g N n;
+        moves = P.moves ∙ ticking-phases t.set.now t.lists.now t.partials.now [] none freq g n (eqb t.set.now.blend 0);
+        written = P.written ∙ ticking-out t.set.now t.lists.now t.partials.now [] none freq g n (eqb t.set.now.blend 0);
       }
 
-  -- LAW: both passes
-  pub ends-noisy : eqb t.set.now.count 0 ≡ false → (r : Rng) (ps ms ys zs : List Float) → PartialsPlayed (partials_of t s.phases) freq g n ps ys
-      → NoisePlayed (noise_of t s.memories s.rng) freq g ys (length ys) r ms zs → Ends (state_of ps ms r) zs
-  ends-noisy C r ps ms ys zs P Q =
-      let N = counted false C in
-      let e = sized ys P.written in
-      let w = noise_of t s.memories s.rng in
-      record {
-        ends =
-            left N r ps ms (P.moves ∙ of_partials-phases) (Q.rings ∙ ap (λ (k : ℕ). memories_at w k) e ∙ of_noise-memories)
-            (Q.steps_on ∙ ap (λ (k : ℕ). rng_at w k) e ∙ of_noise-rng);
-        written =
-            Q.written ∙ ap (λ (k : ℕ). noise_out w freq g ys k) e ∙ of_noise-out ys
-            ∙ ap (λ (z : List Float). noise_out v freq g z n) (P.written ∙ of_partials-out) ∙ out-is v freq g N n;
-      }
+  -- LAW: the laws above for it: no entry, no band that ticks, and both passes
+  pub toned-still : eqb t.set.now.count 0 ≡ true → (ys : List Float) → ys ≡ up_to (λ i. quotient 0 1) n → Leaves s ys
+  toned-still C =
+      ends-still (ticking_set t.set.now) t.lists.now t.partials.now t.noise.now s.phases s.memories s.rng freq g n (counted true C)
+
+  pub toned-partials : eqb t.set.now.count 0 ≡ false → (ticking_set t.set.now).live_count ≡ 0 → (ps ys : List Float)
+      → PartialsPlayed (partials_of t s.phases) freq g n ps ys → Leaves (state_of ps s.memories s.rng) ys
+  toned-partials C L ps ys P =
+      ends-partials (ticking_set t.set.now) t.lists.now t.partials.now t.noise.now s.phases s.memories s.rng freq g n (counted false C) L
+      ps ys (ticked ps ys P)
+
+  pub toned-noisy : eqb t.set.now.count 0 ≡ false → (r : Rng) (ps ms ys zs : List Float)
+      → PartialsPlayed (partials_of t s.phases) freq g n ps ys → NoisePlayed (noise_of t s.memories s.rng) freq g ys (length ys) r ms zs → Leaves (state_of ps ms r) zs
+  toned-noisy C r ps ms ys zs P =
+      ends-noisy (ticking_set t.set.now) t.lists.now t.partials.now t.noise.now s.phases s.memories s.rng freq g n (counted false C) r
+      ps ms ys zs (ticked ps ys P)
 
 -- LAW: a channel that reads the parts of a call's inputs is the call's
 pub channel-of-call : (v : Voice) (c : Call) (ch : ℕ) (parts : Inputs) (n : ℕ) (end : State) (ys : List Float) → PartsOf c ch parts → n ≡ c.shape.samples

@@ -81,13 +81,14 @@ unfolding steps
 sum_fits xs y zero h = h
 sum_fits xs y (suc n) h = add-fits binary32 _ _
 
-sum-steps : (xs : List Float) (g : ℕ → Float → Float) (y : Float) (n : ℕ) → T (fits binary32 y)
+-- LAW: what `sum_of` ensures, where adding place i to a number of the format is step i
+pub sum_is : (xs : List Float) (g : ℕ → Float → Float) (y : Float) (n : ℕ) → T (fits binary32 y)
     → ((i : ℕ) → i < n → (z : Float) → T (fits binary32 z) → z ⊕ get_or xs i nan ≡ g i z)
     → steps (λ i y. y ⊕ get_or xs i nan) y n ≡ steps g y n
 unfolding steps
-sum-steps xs g y zero h e = refl
-sum-steps xs g y (suc n) h e =
-    e n (omega arith) _ (sum_fits xs y n h) ∙ ap (g n) (sum-steps xs g y n h (λ i l. e i (omega arith)))
+sum_is xs g y zero h e = refl
+sum_is xs g y (suc n) h e =
+    e n (omega arith) _ (sum_fits xs y n h) ∙ ap (g n) (sum_is xs g y n h (λ i l. e i (omega arith)))
 
 -- ---- the first n places as a slice: steps over them, and a test of each
 pub first-steps : {A : Type 0} (f : Float → ℕ → A → A) (xs : List Float) (s : A) (n : ℕ) → n ≤ length xs
@@ -100,11 +101,11 @@ pub first-every : (test : Float → Bool) (xs : List Float) (n : ℕ) → n ≤ 
     → every (λ i. test (get_or (take n xs) i nan)) (length (take n xs)) ≡ every (λ i. test (get_or xs i nan)) n
 first-every test xs n h = first-steps (λ x i b. b && test x) xs true n h
 
--- LAW: what `sum_of` ensures of the first n places, where adding place i to a number of the format is step i
-pub sum_is : (xs : List Float) (g : ℕ → Float → Float) (y : Float) (n : ℕ) → n ≤ length xs → T (fits binary32 y)
+-- LAW: and what it ensures of the first n places as a slice
+pub first-sum : (xs : List Float) (g : ℕ → Float → Float) (y : Float) (n : ℕ) → n ≤ length xs → T (fits binary32 y)
     → ((i : ℕ) → i < n → (z : Float) → T (fits binary32 z) → z ⊕ get_or xs i nan ≡ g i z)
     → steps (λ i y. y ⊕ get_or (take n xs) i nan) y (length (take n xs)) ≡ steps g y n
-sum_is xs g y n l h e = first-steps (λ x i y. y ⊕ x) xs y n l ∙ sum-steps xs g y n h e
+first-sum xs g y n l h e = first-steps (λ x i y. y ⊕ x) xs y n l ∙ sum_is xs g y n h e
 
 -- ---- rows of 32 places
 -- the first starts at place 0

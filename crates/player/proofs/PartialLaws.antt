@@ -20,7 +20,7 @@ use Rattle.voice.specs.Voice.{phase_ok, phases_ok, mainlobes}
 use Rattle.player.specs.Sound.{sides_at, step_at, fade_at, partial_row, noise_row, moved_phases, add_single, partial_term, partial_sum}
 use Rattle.player.specs.Bracket.{value_between}
 use Rattle.player.specs.inner.Terms.{partial_added}
-use Rattle.player.specs.inner.Tuning.{PitchAt, Tuned, NoiseTuned, rows_in, constants_at, entries_at, sides_in}
+use Rattle.player.specs.inner.Tuning.{Tuned, NoiseTuned, rows_in, constants_at, entries_at, sides_in}
 use Rattle.player.specs.declared.pitch.bracket.Sides.{Sides}
 use Rattle.player.specs.declared.constants.Constants.{Constants}
 use Rattle.player.specs.declared.pitch.entries.Entries.{Entries}
@@ -128,20 +128,22 @@ module _ (v : Voice) (f0 : Float) (t : Tuning) (T : TunedVoice v f0 t) (ps qs : 
 -- ---- columns that are filled anew
 -- LAW: what `tune` fills is tuned to f0
 pub tuned-is : (x : Constants) (e : Entries) (partials : List Float) (f0 : Float) (p : Pitch) (freqs incs fades rows : List Float) (k : ℕ) (b : Bool)
-    → PitchAt e f0 p → Within 20000 1 f0 → (x.m ≤ 32) × (x.k ≤ 4) × Within 1 4096 x.inv → k ≡ rows_in x → Filled freqs (λ i. partial_freq (i + 1) f0 p.stretch) x.m
+    → (p.f0 ≡ f0) × (p.s ≡ sides_in e f0) × (p.stretch ≡ value_between e.stretch p.s) × (p.mainlobe ≡ value_between e.mainlobe_gain p.s)
+    → Within 8 1 p.stretch → Within 20000 1 f0 → Within 1 4096 x.inv → x.m ≤ 32 → k ≡ rows_in x
+    → Filled freqs (λ i. partial_freq (i + 1) f0 p.stretch) x.m
     → Filled incs (λ i. step_of (i + 1) f0 p.stretch x.inv) x.m → Filled fades (λ i. nyquist_fade (get_or freqs i nan) x.nyquist) x.m
     → FilledRows rows (λ q i. partial_row partials p.s q i) k x.m → b ≡ every (λ i. le (get_or incs i nan) (quotient 31 32)) x.m
     → Tuned x e partials f0 (record { f0 = Some f0; freqs = freqs; mainlobe = p.mainlobe; small = b; incs = incs; fades = fades; rows = rows })
-tuned-is x e partials f0 p freqs incs fades rows k b P F N ek A B C R S =
-    let stretch-is : p.stretch ≡ value_between e.stretch (sides_in e f0) = P.stretch-is ∙ ap (λ (z : Sides). value_between e.stretch z) P.sides-are in
+tuned-is x e partials f0 p freqs incs fades rows k b P W F I M ek A B C R S =
+    let stretch-is : p.stretch ≡ value_between e.stretch (sides_in e f0) = P.2 ∙ ap (λ (z : Sides). value_between e.stretch z) P.1 in
     record {
       at = refl;
-      mainlobe = P.mainlobe-is ∙ ap (λ (z : Sides). value_between e.mainlobe_gain z) P.sides-are;
+      mainlobe = P.3 ∙ ap (λ (z : Sides). value_between e.mainlobe_gain z) P.1;
       small = S;
-      safe = record { at = λ i l. subst (λ (z : Float). Step z) (sym (B.at i l)) (step_small (i + 1) f0 p.stretch x.inv (omega arith) F P.small N.2) };
+      safe = record { at = λ i l. subst (λ (z : Float). Step z) (sym (B.at i l)) (step_small (i + 1) f0 p.stretch x.inv (omega arith) F W I) };
       steps = record { at = λ i l. B.at i l ∙ ap (λ (z : Float). step_of (i + 1) f0 z x.inv) stretch-is };
       fading = record { at = λ i l. C.at i l ∙ ap (λ (z : Float). nyquist_fade z x.nyquist) (A.at i l ∙ ap (λ (z : Float). partial_freq (i + 1) f0 z) stretch-is) };
-      rows_are = record { at = λ q i h l. R.at q i (rw ek h) l ∙ ap (λ (z : Sides). partial_row partials z q i) P.sides-are };
+      rows_are = record { at = λ q i h l. R.at q i (rw ek h) l ∙ ap (λ (z : Sides). partial_row partials z q i) P.1 };
     }
 
 -- LAW: and so are the live bands' columns

@@ -15,7 +15,8 @@ use Rattle.voice.specs.Lists.{map_to, up_to, steps}
 use Rattle.filters.specs.Wave.{sine_of}
 use Rattle.player.specs.Phase.{advance_of, inverse_of, step_of}
 use Rattle.voice.specs.Input.{cleaned}
-use Rattle.voice.specs.Voice.{phase_ok, phases_ok}
+use Rattle.player.specs.Bracket.{value_between}
+use Rattle.voice.specs.Voice.{phase_ok, phases_ok, stretches, mainlobes}
 use Rattle.player.specs.Sound.{sides_at, step_at, partial_term, partial_sum, moved_phases}
 use Rattle.player.specs.inner.Passes.{EntriesFit, PartialsPlayed, phases_at, partials_out}
 use Rattle.player.specs.inner.Terms.{partial_added, sample_added}
@@ -94,8 +95,18 @@ module _ (v : Voice) (freq : ℕ → Float) (g : ℕ → List Float) where
         ∙ ap (λ (z : List Float). partial_sum v f0 h z) G.phases-are ∙ ap (λ (z : Float). partial_sum v z h (phases_at v freq i)) ef ∙ ap (λ (z : List Float). partial_sum v (cleaned (freq i)) z (phases_at v freq i)) eh
 
 -- ---- few partials: one after the other
+-- p is what the frequency f0 decides of a sample by itself
 abbrev pub PitchOf : Voice → Float → Pitch → Type 0
-PitchOf v f0 p = PitchAt (entries_at v.set v.lists) f0 p
+PitchOf v f0 p =
+    (p.f0 ≡ f0) × (p.s ≡ sides_at v f0) × (p.stretch ≡ value_between (stretches v) p.s) × (p.mainlobe ≡ value_between (mainlobes v) p.s)
+
+-- and in its range, as the pass keeps it
+abbrev pub PitchKept : Voice → Float → Pitch → Type 0
+PitchKept v f0 p = PitchAt (entries_at v.set v.lists) f0 p
+
+pub pitch-of : (v : Voice) (p : Pitch) (f0 : Float) → PitchKept v f0 p → PitchOf v f0 p
+unfolding sides_at
+pitch-of v p f0 P = (P.at, P.sides-are, P.stretch-is, P.mainlobe-is)
 
 -- LAW: phases that pass the test step to phases that pass it
 phases-step : (m : ℕ) (f0 stretch inv : Float) (ps : List Float) → m ≤ 32 → Within 20000 1 f0 → Within 8 1 stretch → Within 1 4096 inv → phases_ok ps m ≡ true
@@ -116,23 +127,25 @@ module _ (v : Voice) (f0 : Float) (p : Pitch) (P : PitchOf v f0 p) where
   moved_by p ps = map_to (λ i ph. advance_of ph (step_of (i + 1) p.f0 p.stretch x.inv)) 0 x.m ps
 
   -- LAW: what `sample_of` answers is the sum of the partials
-  sample-of-is : (g ps : List Float) (y : Float) → y ≡ steps (λ i y. sample_added x p v.partials g ps i y) (quotient 0 1) x.m → y ≡ partial_sum v f0 g ps
-  unfolding partial_sum sides_at
+  pub sample-of-is : (g ps : List Float) (y : Float) → y ≡ steps (λ i y. sample_added x p v.partials g ps i y) (quotient 0 1) x.m
+      → y ≡ partial_sum v f0 g ps
+  unfolding partial_sum
   sample-of-is g ps y e =
       e
-      ∙ rw (P.stretch-is, P.mainlobe-is, P.sides-are, P.at)
+      ∙ rw (P.2, P.3, P.1, P.0)
       (steps-as _ _ (quotient 0 1) v.set.m (λ i l y. partial-by-one v f0 g i y (advance_of (get_or ps i nan) (step_at v f0 i))))
 
   -- LAW: its phases are those after the sample
   pub phases-is : (ps ls : List Float) → ls ≡ moved_by p ps → ls ≡ moved_phases v f0 ps
-  unfolding moved_phases sides_at
-  phases-is ps ls e = e ∙ rw (P.stretch-is, P.sides-are, P.at)
+  unfolding moved_phases
+  phases-is ps ls e = e ∙ rw (P.2, P.1, P.0)
 
   -- LAW: and they pass the test of phases
-  pub phases-keep : (ps ls : List Float) → EntriesFit v.set v.lists → Within 20000 1 f0 → ls ≡ moved_by p ps → phases_ok ps v.set.m ≡ true → phases_ok ls v.set.m ≡ true
-  phases-keep ps ls F W e h =
-      let w : Within 20000 1 p.f0 = subst (λ (z : Float). Within 20000 1 z) (sym P.at) W in
-      ap (λ (z : List Float). phases_ok z v.set.m) e ∙ phases-step v.set.m p.f0 p.stretch x.inv ps F.sizes.1 w P.small (inverse-small v.set v.lists F) h
+  pub phases-keep : (ps ls : List Float) → EntriesFit v.set v.lists → Within 20000 1 f0 → Within 8 1 p.stretch → ls ≡ moved_by p ps
+      → phases_ok ps v.set.m ≡ true → phases_ok ls v.set.m ≡ true
+  phases-keep ps ls F W S e h =
+      let w : Within 20000 1 p.f0 = subst (λ (z : Float). Within 20000 1 z) (sym P.0) W in
+      ap (λ (z : List Float). phases_ok z v.set.m) e ∙ phases-step v.set.m p.f0 p.stretch x.inv ps F.sizes.1 w S (inverse-small v.set v.lists F) h
 
   -- a single voice sounds by gain 0 alone
   gains-alike : (ps g h : List Float) → get_or h 0 nan ≡ get_or g 0 nan → (eqb v.set.blend 0 ≡ false → h ≡ g) → partial_sum v f0 h ps ≡ partial_sum v f0 g ps
@@ -144,13 +157,13 @@ module _ (v : Voice) (f0 : Float) (p : Pitch) (P : PitchOf v f0 p) where
       go false q = ap (λ (z : List Float). partial_sum v f0 z ps) (k q)
 
   -- LAW: the sum is the definition's, where the phases were
-  pub few-sounds : (freq : ℕ → Float) (g : ℕ → List Float) (i : ℕ) (h ps : List Float) (y : Float) → f0 ≡ cleaned (freq i) → (get_or h 0 nan ≡ get_or (g i) 0 nan) × (eqb v.set.blend 0 ≡ false → h ≡ g i) → ps ≡ phases_at v freq i
-      → y ≡ steps (λ i y. sample_added x p v.partials h ps i y) (quotient 0 1) x.m → y ≡ partial_sum v (cleaned (freq i)) (g i) (phases_at v freq i)
-  few-sounds freq g i h ps y ef eh ep e = sample-of-is h ps y e ∙ gains-alike ps (g i) h eh.0 eh.1 ∙ rw (ef, ep)
+  pub few-sounds : (freq : ℕ → Float) (g : ℕ → List Float) (i : ℕ) (h ps : List Float) (y : Float) → f0 ≡ cleaned (freq i) → (get_or h 0 nan ≡ get_or (g i) 0 nan) × (eqb v.set.blend 0 ≡ false → h ≡ g i) → ps ≡ phases_at v freq i → y ≡ partial_sum v f0 h ps
+      → y ≡ partial_sum v (cleaned (freq i)) (g i) (phases_at v freq i)
+  few-sounds freq g i h ps y ef eh ep e = e ∙ gains-alike ps (g i) h eh.0 eh.1 ∙ rw (ef, ep)
 
 -- what a frequency decides serves every frequency that compares equal: it is the same
-pub pitch-stays : (v : Voice) (p : Pitch) (f0 : Float) → T (fits binary32 f0) → Within 20000 1 f0 → PitchOf v f0 p
-    → (f : Float) (was : Pitch) → T (fits binary32 f) → Within 20000 1 f → Some p ≡ Some was → eq f was.f0 ≡ true → PitchOf v f was
+pub pitch-stays : (v : Voice) (p : Pitch) (f0 : Float) → T (fits binary32 f0) → Within 20000 1 f0 → PitchKept v f0 p
+    → (f : Float) (was : Pitch) → T (fits binary32 f) → Within 20000 1 f → Some p ≡ Some was → eq f was.f0 ≡ true → PitchKept v f was
 pitch-stays v p f0 F W P f was H X k q =
     let e : p ≡ was = cc in
     let same : f ≡ f0 = same_float f f0 H F X.plain-is W.plain-is (ap (λ (z : Float). eq f z) (sym P.at) ∙ ap (λ (z : Pitch). eq f z.f0) e ∙ q) in
@@ -160,16 +173,16 @@ pitch-stays v p f0 F W P f was H X k q =
 pub record FewAt (v : Voice) (freq : ℕ → Float) (i : ℕ) (phases : List Float) (kept : Option Pitch) : Type 0 where
   pub phases-are : phases ≡ phases_at v freq i
   pub ok : phases_ok phases v.set.m ≡ true
-  pub pitched : (f : Float) (p : Pitch) → T (fits binary32 f) → Within 20000 1 f → kept ≡ Some p → eq f p.f0 ≡ true → PitchOf v f p
+  pub pitched : (f : Float) (p : Pitch) → T (fits binary32 f) → Within 20000 1 f → kept ≡ Some p → eq f p.f0 ≡ true → PitchKept v f p
 
 pub few-at-first : (v : Voice) (freq : ℕ → Float) → phases_ok v.state.phases v.set.m ≡ true → FewAt v freq 0 v.state.phases None
 few-at-first v freq h = record { phases-are = phases-first v freq; ok = h; pitched = λ f p F W k q. cc }
 
 pub few-at-next : (v : Voice) (freq : ℕ → Float) (i : ℕ) (ps qs : List Float) (kept : Option Pitch) (f0 : Float) (p : Pitch) → FewAt v freq i ps kept → EntriesFit v.set v.lists
-    → f0 ≡ cleaned (freq i) → T (fits binary32 f0) → Within 20000 1 f0 → PitchOf v f0 p → qs ≡ map_to (λ i ph. advance_of ph (step_of (i + 1) p.f0 p.stretch (inverse_of v.set.sample_rate))) 0 v.set.m ps
+    → f0 ≡ cleaned (freq i) → T (fits binary32 f0) → Within 20000 1 f0 → PitchKept v f0 p → qs ≡ map_to (λ i ph. advance_of ph (step_of (i + 1) p.f0 p.stretch (inverse_of v.set.sample_rate))) 0 v.set.m ps
     → FewAt v freq (i + 1) qs (Some p)
 few-at-next v freq i ps qs kept f0 p G N ef F W P e = record {
-  phases-are = phases-again v freq i ps qs f0 G.phases-are ef (phases-is v f0 p P ps qs e);
-  ok = phases-keep v f0 p P ps qs N W e G.ok;
+  phases-are = phases-again v freq i ps qs f0 G.phases-are ef (phases-is v f0 p (pitch-of v p f0 P) ps qs e);
+  ok = phases-keep v f0 p (pitch-of v p f0 P) ps qs N W P.small e G.ok;
   pitched = λ f was H X k q. pitch-stays v p f0 F W P f was H X k q;
 }

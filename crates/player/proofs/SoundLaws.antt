@@ -19,10 +19,8 @@ use Rattle.float.specs.F32.{quotient}
 use Rattle.voice.specs.Lists.{up_to, every}
 use Rattle.player.specs.Phase.{inverse_of}
 use Rattle.voice.specs.Input.{part_of, frequency_of, frequency_ok, frequencies_ok, cleaned}
-use Rattle.player.specs.Bands.{ticking}
 use Rattle.player.specs.inner.Passes.{EntriesFit, LiveFit, VoiceFits, FrequenciesFit, frequency_in}
 use Rattle.player.specs.inner.Tuning.{EntriesIn, entries_at}
-use Rattle.player.proofs.BandLaws.{ticking-rules}
 use Rattle.voice.specs.declared.inputs.Inputs.{Inputs}
 use Rattle.player.specs.inner.Ranges.{SidesIn}
 use Rattle.voice.specs.Voice.{phase_ok, pitch_ok, stretch_ok, phases_ok, counts_ok, entries_ok, live_ok, pitches_ascend, bands_ascend, keeps_rules, pitches, stretches}
@@ -108,8 +106,7 @@ voice-fits v h =
         stretches-ok = (both_true (pitches_ascend (pitches v) s.count) (every (λ i. stretch_ok (get_or (stretches v) i nan)) s.count) e.1).1;
         rate = rate-is s.sample_rate (shown _ r.0) (shown _ r.1);
       };
-      bands = sizes.2;
-      live-bands = live-fits (ticking v) (ticking-rules v h);
+      live-bands = live-fits v h;
       phases-ok = k.phases;
     }
 
@@ -140,7 +137,7 @@ frequencies-fit k n ch s h i = go (eqb k 0) h
 
 -- the entries of a voice that is played, with one at least
 pub entries-in : (s : Setting) (lists : List Float) → EntriesFit s lists → 1 ≤ s.count → EntriesIn (entries_at s lists)
-entries-in s lists F h = record { some = h; most = F.sizes.0; pitches-ok = F.pitches-ok; stretches-ok = F.stretches-ok }
+entries-in s lists F h = record { some = h; most = F.sizes.0; pitches-ok = F.pitches-ok }
 
 -- the frequency of a sample is one that can be played
 pub within : (parts : Inputs) → FrequenciesFit parts.freq.now → (i : ℕ) (f0 : Float) → f0 ≡ cleaned (frequency_in parts i) → Within 20000 1 f0

@@ -1,8 +1,9 @@
 // A block: channel after channel, each from the state that the block starts from. Channel 0 comes last, in the lent state itself: its end
 // is kept.
-ghost use Rattle.std.specs.Prelude.{◌≡◌, ◌≤◌, ◌*◌, length};
+ghost use Rattle.std.specs.Prelude.{◌≡◌, ◌*◌, length};
 ghost use Rattle.voice.specs.Input.{call_of, frequency_at, gains_at};
-ghost use Rattle.player.specs.inner.Passes.{VoiceFits, CallFits, ChannelPlayed, BlockPlayed, toned};
+ghost use Rattle.player.specs.Bands.{ticking_set};
+ghost use Rattle.player.specs.inner.Passes.{VoiceFits, CallFits, BlockFits, ChannelPlayed, BlockPlayed, toned};
 
 use crate::channel::channel_of;
 use crate::input::parts_of;
@@ -18,7 +19,7 @@ fn channel_at<'a>(
     ch: usize,
     out: &mut [f32],
 )
-    requires { VoiceFits timbre.set.now timbre.lists.now state.old.phases × CallFits (call_of shape inputs)
+    requires { VoiceFits (ticking_set timbre.set.now) timbre.lists.now state.old.phases × CallFits (call_of shape inputs)
         × (length out.old ≡ shape.samples) }
     ensures { ChannelPlayed (toned timbre.entry state.old) (frequency_at (call_of shape inputs.entry) ch)
         (gains_at (call_of shape inputs.entry) ch) shape.samples state.new out.new }
@@ -33,8 +34,8 @@ pub fn block_of<'a>(
     inputs: Inputs<'a>,
     out: &mut [f32],
 )
-    requires { VoiceFits timbre.set.now timbre.lists.now state.old.phases × CallFits (call_of shape inputs)
-        × (length out.old ≡ shape.channels * shape.samples) }
+    requires { VoiceFits (ticking_set timbre.set.now) timbre.lists.now state.old.phases × CallFits (call_of shape inputs)
+        × BlockFits shape × (length out.old ≡ shape.channels * shape.samples) }
     ensures { BlockPlayed (toned timbre.entry state.old) (call_of shape inputs.entry) state.new out.new }
 {
     let samples = shape.samples;

@@ -1,6 +1,7 @@
 // One channel of a block, in two passes: the partials of all samples, and then what the live bands add.
 // It starts from the state that it is lent, and leaves there the state at its end.
 ghost use Rattle.std.specs.Prelude.{length};
+ghost use Rattle.player.specs.Bands.{ticking_set};
 ghost use Rattle.player.specs.inner.Passes.{VoiceFits, PartialsFit, FrequenciesFit, frequency_in, gains_in};
 ghost use Rattle.player.specs.inner.Passes.{toned, PlaysPartials, ChannelPlayed};
 
@@ -27,7 +28,7 @@ fn all_partials<'a>(timbre: Timbre<'a>, phases: &mut [f32; 32], inputs: Inputs<'
 
 // The inputs are the parts that the channel reads.
 pub fn channel_of<'a>(timbre: Timbre<'a>, state: &mut State, inputs: Inputs<'a>, out: &mut [f32])
-    requires { VoiceFits timbre.set.now timbre.lists.now state.old.phases × FrequenciesFit inputs.freq.now }
+    requires { VoiceFits (ticking_set timbre.set.now) timbre.lists.now state.old.phases × FrequenciesFit inputs.freq.now }
     ensures { ChannelPlayed (toned timbre.entry state.old) (frequency_in inputs.entry) (gains_in inputs.entry)
         (length out.old) state.new out.new }
 {

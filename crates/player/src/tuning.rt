@@ -10,7 +10,7 @@ ghost use Rattle.player.specs.Fade.{nyquist_fade};
 ghost use Rattle.player.specs.inner.Ranges.{SidesIn};
 ghost use Rattle.player.specs.inner.Columns.{LiveFits, Filled, FilledRows};
 ghost use Rattle.player.specs.Sound.{partial_row, noise_row};
-ghost use Rattle.player.specs.inner.Tuning.{PitchFits, Tuned, NoiseTuned};
+ghost use Rattle.player.specs.inner.Tuning.{SidesFit, PitchFits, Tuned, NoiseTuned};
 ghost use Rattle.voice.specs.Limits.{max_entries, max_partials, max_blended};
 
 use crate::columns::{all_up_to, fill_rows};
@@ -126,7 +126,7 @@ impl NoiseTuning {
         noise: &[f32; 1024],
         live: &[u8],
     )
-        requires entries_in { PitchFits entries.now f0 }
+        requires entries_in { SidesFit entries.now f0 }
         requires counts_in { (x.k ≤ max_blended) × LiveFits live.now }
         requires kept { (was : Float) → self.old.f0 ≡ Some was → eq f0 was ≡ true
             → NoiseTuned x entries.now noise.now live.now f0 self.old }

@@ -14,6 +14,7 @@ use Rattle.voice.specs.declared.voice.Setting.{Setting}
 use Rattle.voice.specs.declared.voice.State.{State}
 use Rattle.voice.specs.declared.voice.Voice.{Voice}
 use Rattle.voice.specs.declared.inputs.Inputs.{Inputs}
+use Rattle.voice.specs.declared.shape.Shape.{Shape}
 use Rattle.player.specs.Bands.{ticking_set}
 use Rattle.player.specs.declared.timbre.Timbre.{Timbre}
 use Rattle.voice.specs.Limits.{max_entries, max_partials, max_bands, max_blended, max_samples, max_channels}
@@ -41,18 +42,20 @@ abbrev pub PartialsFit : Timbre → List Float → Inputs → Type 0
 PartialsFit t phases parts =
     EntriesFit t.set.now t.lists.now × (phases_ok phases t.set.now.m ≡ true) × (1 ≤ t.set.now.count) × FrequenciesFit parts.freq.now
 
--- all that a channel or a block needs of the voice
+-- all that a channel or a block needs of the voice, with the numbers that it is played by
 pub record VoiceFits (s : Setting) (lists phases : List Float) : Type 0 where
   pub entries : EntriesFit s lists
-  pub bands : s.j ≤ max_bands
-  pub live-bands : LiveFit (ticking_set s)
+  pub live-bands : LiveFit s
   pub phases-ok : phases_ok phases s.m ≡ true
 
--- of a call: it is a block, its inputs are as long as it, and question 16 is answered yes
+-- of a call: its inputs are as long as its block, and question 16 is answered yes
 pub record CallFits (c : Call) : Type 0 where
-  pub block : (c.shape.samples ≤ max_samples) × (1 ≤ c.shape.channels) × (c.shape.channels ≤ max_channels)
   pub inputs : inputs_ok c ≡ true
   pub frequencies : frequencies_ok c.shape.freq c.freq ≡ true
+
+-- of a shape: no more samples and channels than a block has
+abbrev pub BlockFits : Shape → Type 0
+BlockFits s = (s.samples ≤ max_samples) × (1 ≤ s.channels) × (s.channels ≤ max_channels)
 
 -- ---- what a channel reads at a sample, and which parts of a call's inputs it reads
 abbrev pub frequency_in : Inputs → ℕ → Float

@@ -34,16 +34,19 @@ entries_at s lists = record {
   noise_gain = list_at lists noise_gains_list;
 }
 
--- entries among which every frequency can be looked up, and which give steps that a phase can gain
+-- entries among which every frequency can be looked up
 pub record EntriesIn (e : Entries) : Type 0 where
   pub some : 1 ≤ e.count
   pub most : e.count ≤ max_entries
   pub pitches-ok : every (λ i. pitch_ok (get_or e.f0_hz i nan)) e.count ≡ true
-  pub stretches-ok : every (λ i. stretch_ok (get_or e.stretch i nan)) e.count ≡ true
 
 -- and a frequency that can be looked up among them
+abbrev pub SidesFit : Entries → Float → Type 0
+SidesFit e f0 = EntriesIn e × Within max_hz 1 f0
+
+-- and of which the stretches give steps that a phase can gain
 abbrev pub PitchFits : Entries → Float → Type 0
-PitchFits e f0 = EntriesIn e × Within max_hz 1 f0
+PitchFits e f0 = SidesFit e f0 × (every (λ i. stretch_ok (get_or e.stretch i nan)) e.count ≡ true)
 
 -- the sides of a frequency among entries
 abbrev pub sides_in : Entries → Float → Sides

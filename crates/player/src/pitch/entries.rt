@@ -3,7 +3,7 @@ ghost use Rattle.std.specs.Prelude.{◌≡◌, true};
 ghost use Rattle.std.specs.Float.Ieee.{eq};
 ghost use Rattle.float.specs.inner.Range.{Within};
 ghost use Rattle.player.specs.Bracket.{bracket_of, sides_of};
-ghost use Rattle.player.specs.inner.Tuning.{PitchFits, PitchAt, entries_at, sides_in};
+ghost use Rattle.player.specs.inner.Tuning.{SidesFit, PitchFits, PitchAt, entries_at, sides_in};
 ghost use Rattle.player.specs.inner.Ranges.{SidesIn};
 
 use crate::pitch::bracket::{Bracket, Sides, last_not_above, share, value_between};
@@ -13,8 +13,8 @@ use voice::{MAINLOBE_GAINS, NOISE_GAINS, PITCHES, STRETCHES, list_of};
 
 // What each of the first `count` entries has one of: four arrays and a count, copied once a channel out of the voice's lists, which cross to
 // C as one array. A slice of each would need a clause that their lengths agree. That they can be looked up is asked where it is needed
-// (`PitchFits`), with what is asked of the frequency: the definition `entries_at` has the entries of any setting, so it could not make them
-// with a ghost field.
+// (`SidesFit`, `PitchFits`), with what is asked of the frequency: the definition `entries_at` has the entries of any setting, so it could
+// not make them with a ghost field.
 #[derive(Clone, Copy)]
 pub struct Entries {
     pub count: usize,
@@ -48,7 +48,7 @@ impl Entries {
 
     // Between which of them f0 lies.
     fn bracket_at(&self, f0: f32) -> Bracket
-        requires { PitchFits self.now f0 }
+        requires { SidesFit self.now f0 }
         ensures value { result ≡ bracket_of self.now.f0_hz self.now.count f0 }
         ensures inside { SidesIn self.now.count (sides_of result) × Within 1 1 (sides_of result).t }
     {
@@ -68,7 +68,7 @@ impl Entries {
 
     // The sides of f0 among the entries.
     pub fn sides_at(&self, f0: f32) -> Sides
-        requires { PitchFits self.now f0 }
+        requires { SidesFit self.now f0 }
         ensures value { result ≡ sides_in self.now f0 }
         ensures inside { SidesIn self.now.count result × Within 1 1 result.t }
     {

@@ -5,6 +5,8 @@ use Rattle.voice.specs.Question.{play_question, ask}
 use Rattle.voice.proofs.QuestionLaws.{play-accepted, block-is}
 use Rattle.player.specs.Playing.{played, played_out}
 use Rattle.player.proofs.PlayLaws.{play_done}
+use Rattle.player.specs.Bands.{ticking}
+use Rattle.player.proofs.BandLaws.{ticking-rules}
 use Rattle.player.proofs.SoundLaws.{voice-fits}
 use Rattle.player.proofs.playing.play.Goals as goal
 
@@ -15,7 +17,7 @@ block_of-requires c =
     let v = a.voice.now in
     let h = play-accepted v (call_of a.shape a.inputs) (length a.out.now) (sym c.in_ok-play_question.ensures) in
     let k = block-is a.shape.samples a.shape.channels (length a.out.now) h.1.block in
-    (voice-fits v h.0, record { block = (k.0, k.1, k.2); inputs = h.1.inputs; frequencies = h.1.frequencies }, k.3)
+    (voice-fits (ticking v) (ticking-rules v h.0), record { inputs = h.1.inputs; frequencies = h.1.frequencies }, (k.0, k.1, k.2), k.3)
 
 pub returns-in_err-play_question : goal.returns-in_err-play_question
 unfolding play_question ask played played_out

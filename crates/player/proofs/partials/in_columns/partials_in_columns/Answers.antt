@@ -24,7 +24,7 @@ tune-requires c =
     let W = within a.inputs c.requires.3 c.loop-i.i f0 c.frequency_at.ensures in
     let N = c.requires.0 in
     record {
-      entries_in = (rw c.of-entries.ensures (entries-in set lists N c.requires.2), W);
+      entries_in = rw c.of-entries.ensures ((entries-in set lists N c.requires.2, W), N.stretches-ok);
       counts_in = rw c.of-x.ensures (N.sizes.1, N.sizes.2, inverse-small set lists N);
       kept = λ was k q. rw (c.of-x.ensures, c.of-entries.ensures) (c.loop-i.invariant.1.tuned f0 was (shown _ c.frequency_at.type_inv) W k q);
     }

@@ -5,7 +5,7 @@ use Rattle.float.proofs.Finite.{shown}
 use Rattle.float.specs.inner.Range.{Within}
 use Rattle.player.specs.inner.Passes.{frequency_in, gains_in, partials_of}
 use Rattle.player.proofs.SoundLaws.{entries-in, within, inverse-small}
-use Rattle.player.proofs.PartialsPass.{PitchOf, few-at-first, few-at-next, few-sounds, partials-out-first, partials-out-again, partials-out-full}
+use Rattle.player.proofs.PartialsPass.{PitchKept, pitch-of, sample-of-is, few-at-first, few-at-next, few-sounds, partials-out-first, partials-out-again, partials-out-full}
 use Rattle.player.proofs.partials.one_by_one.partials_one_by_one.Goals as goal
 
 pub loop-i-init : goal.loop-i-init
@@ -20,7 +20,7 @@ pitch_kept-p-requires c =
     let f0 = c.frequency_at.result in
     let W = within a.inputs c.requires.3 c.loop-i.i f0 c.frequency_at.ensures in
     record {
-      entries_in = (rw c.of-entries.ensures (entries-in a.timbre.set.now a.timbre.lists.now c.requires.0 c.requires.2), W);
+      entries_in = rw c.of-entries.ensures ((entries-in a.timbre.set.now a.timbre.lists.now c.requires.0 c.requires.2, W), c.requires.0.stretches-ok);
       kept = λ p k q. rw c.of-entries.ensures (c.loop-i.invariant.1.pitched f0 p (shown _ c.frequency_at.type_inv) W k q);
     }
 
@@ -47,9 +47,12 @@ loop-i-preserved c =
     let F = shown _ c.frequency_at.type_inv in
     let W = within a.inputs c.requires.3 i f0 ef in
     let p = c.pitch_kept-p.result in
-    let P : PitchOf v f0 p = rw c.of-entries.ensures at c.pitch_kept-p.ensures in
+    let P : PitchKept v f0 p = rw c.of-entries.ensures at c.pitch_kept-p.ensures in
     let G = c.loop-i.invariant.1 in
-    let y = few-sounds v f0 p P fs gs i c.gains_for-gains.result c.loop-i.phases c.sample_of.result ef (rw c.of-x.ensures at c.gains_for-gains.ensures) G.phases-are (rw c.of-x.ensures at c.sample_of.ensures.value) in (
+    let O = pitch-of v p f0 P in
+    let h = c.gains_for-gains.result in
+    let s = sample-of-is v f0 p O h c.loop-i.phases c.sample_of.result (rw c.of-x.ensures at c.sample_of.ensures.value) in
+    let y = few-sounds v f0 p O fs gs i h c.loop-i.phases c.sample_of.result ef (rw c.of-x.ensures at c.gains_for-gains.ensures) G.phases-are s in (
       partials-out-again v fs gs i a.out.now c.loop-i.out c.sample_of.result (omega arith) c.loop-i.invariant.0 y,
       few-at-next v fs i c.loop-i.phases _ c.loop-i.kept f0 p G c.requires.0 ef F W P (rw c.of-x.ensures at c.sample_of.ensures.phases_after),
     )
