@@ -7,8 +7,8 @@ use crate::block::block_of;
 use crate::timbre::Timbre;
 use voice::{CallError, Inputs, Shape, Voice, play_question};
 
-// Plays a block of the voice itself, which moves on. A refusal leaves voice and output as they are. Of the voice only the noise number is
-// copied.
+// Plays a block of the voice itself, which moves on. A refusal leaves voice and output as they are. Of the voice its numbers are copied for
+// the questions, and the noise number; for each channel behind the first its state, and for each pass the short lists that it looks up in.
 pub fn play<'a>(
     voice: &mut Voice,
     shape: Shape,
