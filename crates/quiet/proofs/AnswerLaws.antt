@@ -21,12 +21,13 @@ pub gain-beyond : (l : List Window) (i : ℕ) → length l ≤ i → gain_at l i
 unfolding gain_at
 gain-beyond l i h = get_or-eq_default (map (λ v. step_gain v.step) l) (quotient 1 1) (rw (length-map l (λ v. step_gain v.step)) h)
 
+-- an edge that is wrong is said first, whatever the steps and the minute are
+pub edge_first : (vs : List Window) (w i : ℕ) → position (λ v. not (edges_ok v)) vs ≡ Some i → Err (PlanError.BadWindow i) ≡ windows_answer vs w
+unfolding windows_answer
+edge_first vs w i h = let p = first_found (λ v. not (edges_ok v)) vs i h in rw (p.0, lt-ltb i (length vs) p.1)
+
 -- By what the three searches find: the questions in their order.
 module _ (vs : List Window) (w : ℕ) (edge step held : Option ℕ) (e : edge ≡ position (λ v. not (edges_ok v)) vs) where
-  pub edge-wrong : (i : ℕ) → edge ≡ Some i → Err (PlanError.BadWindow i) ≡ windows_answer vs w
-  unfolding windows_answer
-  edge-wrong i a = let p = first_found (λ v. not (edges_ok v)) vs i (sym e ∙ a) in rw (p.0, lt-ltb i (length vs) p.1)
-
   module _ (a : edge ≡ None) (f : step ≡ position (λ v. not (step_ok v)) vs) where
     abbrev n : ℕ
     n = length vs

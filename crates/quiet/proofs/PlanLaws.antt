@@ -206,7 +206,9 @@ gain-fits p w =
 -- LAW: a refusal's is 1, the loudness of a pole without a plan
 pub refused_full : (a : Result Gain PlanError) → ((plan_refusal a).number ≡ 0 → ⊥) → gain_of a ≡ quotient 1 1
 refused_full (Ok g) n = absurd (n refl)
-refused_full (Err e) n = refl
+refused_full (Err (PlanError.BadWindow i)) n = refl
+refused_full (Err (PlanError.BadStep i)) n = refl
+refused_full (Err PlanError.BadMinute) n = refl
 
 -- ---- the answers apart
 abbrev answer_of : Refusal → Float → Result Gain PlanError

@@ -33,6 +33,7 @@ fn first_holding(windows: &[Window], minute: u32) -> Option<usize>
 
 // The questions of the edges, of the steps and of the minute, each of all windows before the next; then the first window that holds the
 // minute gives its gain. The windows are looked through three times at most, whatever they hold.
+#[tactic(auto, using(crate::proofs::AnswerLaws::edge_first))]
 fn windows_gain(windows: &[Window], minute: u32) -> Result<Gain, PlanError>
     ensures { result ≡ windows_answer windows.now minute }
 {

@@ -1,11 +1,8 @@
--- What each search of the windows finds, and what is answered then.
+-- What each search of the windows finds, and what is answered then. (That a wrong edge is said first is left to the search, by `edge_first`.)
 use Rattle.std.proofs.Common.{None}
 use lib.Ieee.{of_bits, round}
-use Rattle.quiet.proofs.AnswerLaws.{edge-wrong, step-wrong, minute-wrong, window-holds, none-holds}
+use Rattle.quiet.proofs.AnswerLaws.{step-wrong, minute-wrong, window-holds, none-holds}
 use Rattle.quiet.proofs.gain.windows_gain.Goals as goal
-
-pub returns-in-Some : goal.returns-in-Some
-returns-in-Some c = edge-wrong c.args.windows.now _ _ None None c.first_bad_edge.ensures _ c.in-Some.is
 
 pub returns-in-Some-first_bad_step : goal.returns-in-Some-first_bad_step
 returns-in-Some-first_bad_step c =
