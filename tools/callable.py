@@ -1,7 +1,8 @@
 """The callable functions of the library crates (those with src/lib.rt), read from their text: check_proofs.py uses it.
 
 A function is callable where another crate can name it: `pub fn` in a file that a chain of `pub mod` opens from lib.rt, or whose name a
-`pub use` hands out; a method where its type is so, wherever the method stands; and each `extern "C"`, which the linker hands out.
+`pub use` hands out; a method where its type is so, wherever the method stands; each `extern "C"`, which the linker hands out; and the `from` or
+`default` that a type of the crate has by an `impl` of From or Default, which is no `pub fn`, and whose promise the impl's own law is.
 It reads text only, and does not read every form of Rattle: one that it would misread is a fault (`unread`), so that nothing is passed
 over. A contract that speaks of an answer may still say too little, which the edits of must-fail are for.
 """
@@ -12,6 +13,8 @@ from pathlib import Path
 WORD = re.compile(r'\b(fn|impl)\b')
 HIDDEN = re.compile(r"""//[^\n]*|\bb"(?:\\.|[^"\\])*"|\bb'(?:\\.[^']*|[^'])'""")
 NAMED = re.compile(r'\s*([\w:]+)::(?:(\w+)|\{([\w\s,]*)\})\s*;')  # one name, or several of one file, of a `pub use`
+HEAD = re.compile(r'\s*(?:<[^>]*>)?\s*(?:([\w:]+)(?:<([\w:]*)[^>]*>)?\s+for\s+)?(\w+)')  # of an `impl`: a trait, what it is of, and the type
+LAW = re.compile(r'\bghost\s+\w+\s*=\s*(?=\{)')
 CLAUSE = re.compile(r'\s*(requires|ensures)\b[^{]*(?=\{)')
 
 
@@ -25,6 +28,9 @@ class Function:
     params: str
     answer: str
     clauses: list  # (requires or ensures, text)
+    trait: str = ''  # of an `impl` of a trait: the trait, what it is of, and whether the impl states a law
+    of: str = ''
+    has_law: bool = False
 
     def lent(self):
         """The arguments that it may write to."""
@@ -35,7 +41,7 @@ class Function:
         """What its contract lacks."""
         promised = [text for kind, text in self.clauses if kind == 'ensures']
         found = ['has a `requires`'] if any(kind == 'requires' for kind, _ in self.clauses) else []
-        if self.answer and not any(map(speaks_of_answer, promised)):
+        if self.answer and not self.has_law and not any(map(speaks_of_answer, promised)):
             found.append('says nothing of its answer')
         for name in self.lent():
             if not any(re.search(rf'(?<![\w.]){name}\.new\b', text) for text in promised):
@@ -96,12 +102,13 @@ def closed(text, at, pair):
 def functions(file):
     """Each function of a file; a body is passed over."""
     text = plain(file)
-    at, owner, owner_end = 0, '', 0
+    at, owner, owner_end, head, has_law = 0, '', 0, None, False
     while m := WORD.search(text, at):
         if m[1] == 'impl':
             brace = text.index('{', m.end())
-            owner = re.match(r"\s*(?:<[^>]*>)?\s*(?:\w+\s+for\s+)?(\w+)", text[m.end():brace])[1]
-            owner_end, at = closed(text, brace, '{}'), brace + 1
+            head = HEAD.match(text[m.end():brace])
+            owner, owner_end = head[3], closed(text, brace, '{}')
+            has_law, at = LAW.search(text, brace, owner_end) is not None, brace + 1
             continue
         before = text[text.rfind('\n', 0, m.start()) + 1:m.start()]
         name = re.match(r'\s*(\w+)', text[m.end():])
@@ -116,8 +123,10 @@ def functions(file):
             at = closed(text, clause.end(), '{}')
             clauses.append((clause[1], text[clause.end():at]))
         body = text.find('{', at)
-        yield Function(file, name[1], owner if m.start() < owner_end else '', 'pub' in before.split(), 'extern' in before.split(),
-                       text[bracket:end], arrow[1].strip() if arrow else '', clauses)
+        is_method = m.start() < owner_end
+        trait, of = (head[1] or '', head[2] or '') if is_method else ('', '')
+        yield Function(file, name[1], owner if is_method else '', 'pub' in before.split(), 'extern' in before.split(),
+                       text[bracket:end], arrow[1].strip() if arrow else '', clauses, trait, of, bool(trait) and has_law)
         at = closed(text, body, '{}') if body >= 0 else len(text)
 
 
@@ -158,7 +167,8 @@ def callable_functions(crates):
         for file in sorted(lib.parent.glob('**/*.rt')):
             for f in functions(file):
                 named = f.owner in known if f.owner else file in files or f.name in names.get(file, ())
-                if f.is_extern or f.is_pub and named:
+                by_trait = f.trait in ('From', 'Default') and (f.owner in known or f.of in known)
+                if f.is_extern or by_trait or f.is_pub and named:
                     yield f
 
 
