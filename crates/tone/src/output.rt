@@ -113,9 +113,7 @@ impl<'a> Run<'a> {
     }
 
     // The header, then the samples.
-    fn fill_file<W: Write>(&mut self, file: &mut W) -> Result<(), Fault>
-        requires { self.old.total ≤ 16777216 }
-    {
+    fn fill_file<W: Write>(&mut self, file: &mut W) -> Result<(), Fault> {
         self.sink
             .send(file, &wav::header(self.options.rate, self.total))?;
         self.fill_all(file)
@@ -166,9 +164,7 @@ fn make_file<R: Files<File = File> + Print>(
     rt: &R,
     output: Output,
     mut run: Run,
-) -> Result<(), Failed>
-    requires { run.total ≤ 16777216 }
-{
+) -> Result<(), Failed> {
     let mut file = output.open(rt)?;
     let filled = run.fill_file(&mut file);
     if let Err(fault) = filled {

@@ -13,15 +13,15 @@ fn put(header: &mut [u8; 58], at: usize, n: u32)
     header[at..at + 4].copy_from_slice(&n.to_le_bytes());
 }
 
-// What stands before so many samples. A rate that a voice was made at is far below those whose bytes a second are past 2^32.
-pub fn header(rate: u32, samples: u32) -> [u8; 58]
-    requires { samples ≤ 16777216 }
-{
+// What stands before so many samples. A rate that a voice was made at, and the samples of 60 seconds, are far below those whose bytes are
+// past 2^32: of such the largest number stands there.
+pub fn header(rate: u32, samples: u32) -> [u8; 58] {
+    let bytes = samples.saturating_mul(4);
     let mut header = HEADER;
-    put(&mut header, 4, 50 + samples * 4);
+    put(&mut header, 4, bytes.saturating_add(50));
     put(&mut header, 24, rate);
     put(&mut header, 28, rate.saturating_mul(4));
     put(&mut header, 46, samples);
-    put(&mut header, 54, samples * 4);
+    put(&mut header, 54, bytes);
     header
 }
