@@ -6,6 +6,7 @@ ghost use Rattle.table.specs.Rewrite.{rewriting, rewritten, rewriting_parsed, re
 
 use crate::error::CoeffTableCodecError;
 use crate::read::from_bytes;
+use wire::copy::copy;
 
 // How many entries were written, and in how many bytes.
 #[derive(Clone, Copy)]
@@ -40,7 +41,7 @@ pub fn to_bytes(image: &[u8], target: &mut [u8]) -> Result<Written, RewriteError
     if target.len() < bytes {
         return Err(RewriteError::TargetTooShort);
     }
-    target[..bytes].copy_from_slice(&image[..bytes]);
+    copy(&image[..bytes], &mut target[..bytes]);
     target[4] = 1;
     target[5] = 0;
     Ok(Written {

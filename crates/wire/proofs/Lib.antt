@@ -4,3 +4,4 @@ pub mod Utf8Laws
 pub mod Found
 pub mod Apart
 pub mod Many
+pub mod CopyLaws

@@ -2,6 +2,7 @@
 // it.
 #![tactic(auto)]
 
+pub mod copy;
 pub mod cursor;
 pub mod reader;
 pub mod utf8;
