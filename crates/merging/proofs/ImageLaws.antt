@@ -24,14 +24,13 @@ use Rattle.table.proofs.ReadLaws.{accepted-table}
 use Rattle.table.proofs.Spelled.{read_again, table-parts}
 use Rattle.table.proofs.RoundTrip.{Bytes}
 use Rattle.merging.proofs.OrderLaws.{length-arranged, arranged-order, length-order}
-use Rattle.merging.proofs.SortLaws.{Fitting}
 use Rattle.merging.specs.Order.{pitch_rank, Every}
 use Rattle.merging.specs.declared.extent.Extent.{Extent}
 use Rattle.merging.specs.declared.accepted.Accepted.{Accepted}
 use Rattle.merging.specs.inner.Extent.{AcceptedAt}
 use Rattle.table.specs.inner.Answers.{reads}
 use Rattle.merging.specs.declared.keys.Key.{Key}
-use Rattle.merging.specs.inner.Keys.{rank, keys_from, keys_of, joined_bytes}
+use Rattle.merging.specs.inner.Keys.{rank, Fitting, keys_from, keys_of, joined_bytes}
 use Rattle.merging.specs.inner.Image.{laid, head_of, stable, stable_image, stable_over}
 use Rattle.merging.proofs.AcceptedLaws.{encode-entries, head-length}
 use Rattle.merging.proofs.KeyLaws.{length-keys, keys-fit, keys-merged}

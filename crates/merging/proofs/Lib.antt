@@ -3,6 +3,7 @@ pub mod EqualKeys
 pub mod RankLaws
 pub mod SortLaws
 pub mod RunLaws
+pub mod PartLaws
 pub mod FloatLaws
 pub mod SpanOrder
 pub mod AcceptedLaws

@@ -6,6 +6,7 @@ mod extent;
 mod head;
 mod keys;
 mod skip;
+mod sort;
 mod spans;
 mod tables;
 mod write;

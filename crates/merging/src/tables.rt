@@ -1,5 +1,5 @@
 // Two tables made one: the first one's name, and the entries of both in pitch order.
-ghost use Rattle.std.specs.Prelude.{◌≡◌, ◌+◌, ◌≤◌, length};
+ghost use Rattle.std.specs.Prelude.{◌≡◌, ◌+◌, ◌*◌, ◌≤◌, length};
 ghost use Rattle.table.specs.Decode.{decode};
 ghost use Rattle.merging.specs.Merge.{merging, MergeLeaves};
 ghost use Rattle.merging.specs.Answer.{merging_outcome};
@@ -24,19 +24,21 @@ pub enum MergeError {
     TargetTooShort, // 23
 }
 
-// Writes the result, which fits and has at most N entries: so many keys are cleared first. (The library allocates nothing.)
-fn put_within<const N: usize>(tables: Tables, target: &mut [u8])
+// Writes the result, which fits and has at most N entries: so many keys are cleared first, and M, half as many, to put them in order by.
+// (The library allocates nothing.)
+fn put_within<const N: usize, const M: usize>(tables: Tables, target: &mut [u8])
     requires { (ResultFits (read_as tables.first) (read_as tables.second) (length target.old))
-        × (tables.first.extent.count + tables.second.extent.count ≤ N) × (N ≤ 2340) }
+        × (tables.first.extent.count + tables.second.extent.count ≤ N) × (N ≤ 2340) × (N ≤ 2 * M) × (M ≤ 1170) }
     ensures { target.new
         ≡ stable_over (read_as tables.entry.first) (read_as tables.entry.second) target.old }
 {
     let mut room = [Key::default(); N];
+    let mut work = [Key::default(); M];
     let keys = &mut room[..];
     let n = tables.first.extent.count;
     let k = tables.entries();
-    ordered_keys(tables.first, &mut keys[..n]);
-    ordered_keys(tables.second, &mut keys[n..k]);
+    ordered_keys(tables.first, &mut keys[..n], &mut work);
+    ordered_keys(tables.second, &mut keys[n..k], &mut work);
     put_head(tables.first, k as u32, target);
     // (Shared as a whole first: two parts of a slice that may be written on are not lent at once.)
     let keys = &keys[..];
@@ -52,9 +54,9 @@ fn put_merged(tables: Tables, target: &mut [u8])
 {
     let entries = tables.entries();
     if entries <= 64 {
-        put_within::<64>(tables, target);
+        put_within::<64, 32>(tables, target);
     } else {
-        put_within::<2340>(tables, target);
+        put_within::<2340, 1170>(tables, target);
     }
 }
 
