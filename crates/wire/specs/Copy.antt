@@ -1,8 +1,8 @@
--- Bytes copied from one slice to another.
-use Rattle.std.specs.Prelude.{ℕ, List, [], ◌∷◌}
+-- What is copied from one slice to another.
+use Rattle.std.specs.Prelude.{List, [], ◌∷◌}
 
--- `to` with the bytes of `from` at its start: those that there is room for
-abbrev pub copied : List ℕ → List ℕ → List ℕ
+-- `to` with the elements of `from` at its start: those that there is room for
+abbrev pub copied : {A : Type 0} → List A → List A → List A
 copied [] to = to
 copied (b ∷ from) [] = []
 copied (b ∷ from) (c ∷ to) = b ∷ copied from to

@@ -13,10 +13,13 @@ returns-then-target-bytes c =
     let w = rewrite-small c.args.image.now (λ i. omega (arith, c.type_inv.image i)) c.args.target.now _ _ (sym c.in_ok-counts.ensures) c.if-target-bytes.true in
     record { answered = sym w.0; written = sym w.1 }
 
-pub slice_bounds-copy-end-3 : goal.slice_bounds-copy-end-3
-slice_bounds-copy-end-3 c =
+pub slice_bounds-copy-end : goal.slice_bounds-copy-end
+slice_bounds-copy-end c =
     let w = rewrite-fits c.args.image.now (λ i. omega (arith, c.type_inv.image i)) c.args.target.now _ _ (sym c.in_ok-counts.ensures) c.if-target-bytes.false in
     sym (length-take-le _ c.args.image.now w.inside)
+
+pub slice_bounds-copy-end-3 : goal.slice_bounds-copy-end-3
+slice_bounds-copy-end-3 c = sym (length-take-le _ c.args.target.now c.if-target-bytes.false)
 
 pub bounds-target-4 : goal.bounds-target-4
 bounds-target-4 c =
