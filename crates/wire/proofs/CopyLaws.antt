@@ -20,6 +20,7 @@ module _ {A : Type 0} where
 
   -- all of them
   pub copied-done : (s t : List A) (i : ℕ) → i ≡ min (length s) (length t) → take i s ++ drop i t ≡ copied s t
+  unfolding copied
   copied-done [] t zero e = refl
   copied-done [] t (suc i) e = absurd (omega arith)
   copied-done (b ∷ s) [] zero e = refl
@@ -29,6 +30,7 @@ module _ {A : Type 0} where
 
   -- LAW: a slice of the same length is all of the other's elements
   pub copied-whole : (s t : List A) → length t ≡ length s → copied s t ≡ s
+  unfolding copied
   copied-whole [] [] e = refl
   copied-whole [] (c ∷ t) e = absurd (omega arith)
   copied-whole (b ∷ s) [] e = absurd (omega arith)

@@ -2,7 +2,7 @@
 use Rattle.std.specs.Prelude.{List, [], ◌∷◌}
 
 -- `to` with the elements of `from` at its start: those that there is room for
-abbrev pub copied : {A : Type 0} → List A → List A → List A
+unfoldable pub copied : {A : Type 0} → List A → List A → List A
 copied [] to = to
 copied (b ∷ from) [] = []
 copied (b ∷ from) (c ∷ to) = b ∷ copied from to
