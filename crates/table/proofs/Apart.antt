@@ -7,7 +7,7 @@ use mathlib.Core.Option.{Option, some, none}
 use native.Mathlib.Omega.{arith}
 use lib.Dec.{eqb}
 use Rattle.wire.specs.Parse.{Refusal, Parsed, ok, refused}
-use Rattle.std.specs.Prelude.{Result, Ok, Err, Some, None}
+use Rattle.std.specs.Prelude.{Result, Ok, Err, IfOk, Some, None}
 use Rattle.std.specs.Prelude.{Option as CodeOption}
 use Rattle.table.specs.declared.desk.Desk.{Desk}
 use Rattle.table.specs.declared.entry.EntryView.{EntryView}
@@ -15,12 +15,15 @@ use Rattle.table.specs.declared.error.CoeffTableCodecError.{CoeffTableCodecError
 use Rattle.table.specs.declared.read.Counts.{Counts}
 use Rattle.table.specs.declared.rewrite.Written.{Written}
 use Rattle.table.specs.declared.rewrite.RewriteError.{RewriteError}
+use Rattle.table.specs.declared.views.Views.{Views}
 use Rattle.table.specs.Image.{entry}
+use Rattle.table.specs.Decode.{decode}
 use Rattle.table.specs.View.{entry_at, view_of, PlacedRead}
 use Rattle.table.specs.Answer.{refusal_of, reading_parsed, found_bits, entry_parsed}
 use Rattle.table.specs.Desk.{Outcome, desk, refused_by, desk_answer}
 use Rattle.table.specs.Lookup.{found_view}
 use Rattle.table.specs.Rewrite.{rewriting_parsed}
+use Rattle.table.specs.Views.{views_of, views_parsed, ViewsRead}
 
 -- a map that has another one back from it tells its arguments apart
 pub apart : {A B : Type 0} (f : A → B) (back : B → A) → ((a : A) → back (f a) ≡ a) → (x y : A) → f x ≡ f y → x ≡ y
@@ -128,3 +131,24 @@ entry-read-apart s at (Err f) (Err g) p q e =
 pub entry-at-apart : (s : List ℕ) (at index : ℕ) (a b : Result EntryView CoeffTableCodecError) → entry_parsed s a ≡ entry index s at → PlacedRead s at a
     → entry_parsed s b ≡ entry index s at → PlacedRead s at b → a ≡ b
 entry-at-apart s at index a b m p n q = entry-read-apart s at a b p q (m ∙ sym n)
+
+-- a reading that kept views
+abbrev views_at : ℕ → ℕ → List EntryView → Result Views CoeffTableCodecError
+views_at n end views = Ok (record { counts = record { entries = n; end = end }; views = views })
+
+views-read-apart : (a b : Result Views CoeffTableCodecError) (xs : List EntryView) → views_parsed a ≡ views_parsed b
+    → IfOk a (λ v. v.views ≡ xs) → IfOk b (λ v. v.views ≡ xs) → a ≡ b
+views-read-apart (Ok v) (Ok w) xs e p q =
+    let n : v.counts.entries ≡ w.counts.entries = cc in
+    let k : v.counts.end ≡ w.counts.end = cc in
+    ap (λ (n : ℕ). views_at n v.counts.end v.views) n ∙ ap (λ (k : ℕ). views_at w.counts.entries k v.views) k
+    ∙ ap (views_at w.counts.entries w.counts.end) (p ∙ sym q)
+views-read-apart (Ok v) (Err f) xs e p q = let z : ◌≡◌ {A = ℕ} 0 1 = cc in absurd (omega arith)
+views-read-apart (Err f) (Ok w) xs e p q = let z : ◌≡◌ {A = ℕ} 0 1 = cc in absurd (omega arith)
+views-read-apart (Err f) (Err g) xs e p q =
+    let x : refusal_of f ≡ refusal_of g = cc in
+    ap Err (refusal-apart f g x)
+
+-- what views_of says of its answer fixes it: the counts or the refusal, and the views of an image that is accepted
+pub views-apart : (s : List ℕ) (a b : Result Views CoeffTableCodecError) → ViewsRead s a → ViewsRead s b → a ≡ b
+views-apart s a b p q = views-read-apart a b (views_of (decode s)) (p.reading ∙ sym q.reading) p.views q.views

@@ -80,6 +80,14 @@ module _ (e f : PitchEntry) where
       go (Err x) agreed k = let z : ◌≡◌ {A = ℕ} 0 1 = cc in absurd (omega arith)
       go (Err x) (broken q) k = refl
 
+  -- and where it is refused they do not agree
+  pub both-differ : (r : Refusal) → concluded both 2 0 ≡ refused r → false ≡ agrees (consistent (e ∷ f ∷ []))
+  both-differ r h = go both h ∙ ap agrees both-judged
+    where
+      go : (v : Verdict) → concluded v 2 0 ≡ refused r → false ≡ agrees v
+      go agreed k = let z : ◌≡◌ {A = ℕ} 0 1 = cc in absurd (omega arith)
+      go (broken q) k = refl
+
 -- of entries that nothing broke the answer is their counts
 pub unbroken : (j : Baseline) (n end : ℕ) → ((f i : ℕ) → j ≡ Baseline.Broken f i → ⊥) → ok n end ≡ concluded (verdict_from j n []) n end
 unfolding verdict_from agree

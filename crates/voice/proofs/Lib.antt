@@ -5,3 +5,4 @@ pub mod InitLaws
 pub mod QuestionLaws
 pub mod MemoryLaws
 pub mod RetuneLaws
+pub mod CallApart
