@@ -1,5 +1,5 @@
--- Each answer of `make` is told by its refusal's number and values, and its voice: what its contract says of an answer fixes it. Assumes
--- nothing.
+-- Each answer of `make` is told by its refusal's number and values, but for the voice of one that is accepted: what its contract says of an
+-- answer fixes it. Assumes nothing.
 use Prim.Native.Nat.{ℕ}
 use mathlib.Core.Bool.{true, false, true≢false, cond}
 use mathlib.Core.Path.{◌≡◌, refl, ap, sym, ◌∙◌}
@@ -9,7 +9,6 @@ use Rattle.wire.specs.Parse.{Refusal, refusal}
 use Rattle.table.specs.declared.error.CoeffTableCodecError.{CoeffTableCodecError}
 use Rattle.making.specs.declared.error.MakeError.{MakeError}
 use Rattle.voice.specs.declared.voice.Voice.{Voice}
-use Rattle.making.specs.Making.{Made}
 use Rattle.making.specs.Answer.{make_refusal, made_of}
 use Rattle.making.proofs.CoeffLaws.{error-number}
 
@@ -50,9 +49,16 @@ make-errors-apart a b e = sym (error_back a) ∙ ap error_of e ∙ error_back b
 numbered : (e : MakeError) (r : Refusal) → make_refusal e ≡ r → r.number ≡ 0 → ⊥
 numbered e r p z = let q : false ≡ true = sym (error-number e) ∙ ap (λ (r : Refusal). eqb r.number 0) p ∙ ap (λ (n : ℕ). eqb n 0) z in absurd (true≢false (sym q))
 
--- LAW
-pub make-answers-apart : (a b : Result Voice MakeError) → made_of a ≡ made_of b → a ≡ b
-make-answers-apart (Ok v) (Ok w) e = ap Ok (ap (λ (m : Made). m.voice) e)
-make-answers-apart (Ok v) (Err d) e = absurd (numbered d (refusal 0 0 0) (ap (λ (m : Made). m.refusal) (sym e)) refl)
-make-answers-apart (Err d) (Ok w) e = absurd (numbered d (refusal 0 0 0) (ap (λ (m : Made). m.refusal) e) refl)
-make-answers-apart (Err c) (Err d) e = ap Err (make-errors-apart c d (ap (λ (m : Made). m.refusal) e))
+-- an answer without its voice
+abbrev pub voiceless : Result Voice MakeError → Result (Unit {0}) MakeError
+voiceless (Ok v) = Ok tt
+voiceless (Err e) = Err e
+
+-- LAW: of two answers whose refusals are the same (number and values, 0 of one that refuses nothing), both are accepted or both are that
+-- refusal; and where their voices are the same too, they are one answer.
+pub make-answers-apart : (a b : Result Voice MakeError) → (made_of a).refusal ≡ (made_of b).refusal
+    → (voiceless a ≡ voiceless b) × ((made_of a).voice ≡ (made_of b).voice → a ≡ b)
+make-answers-apart (Ok v) (Ok w) e = (refl, λ q. ap Ok q)
+make-answers-apart (Ok v) (Err d) e = absurd (numbered d (refusal 0 0 0) (sym e) refl)
+make-answers-apart (Err d) (Ok w) e = absurd (numbered d (refusal 0 0 0) e refl)
+make-answers-apart (Err c) (Err d) e = (ap Err (make-errors-apart c d e), λ q. ap Err (make-errors-apart c d e))
