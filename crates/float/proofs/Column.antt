@@ -27,6 +27,15 @@ rooted-at (suc n) i (x ∷ xs) [] h k l = absurd (omega arith)
 rooted-at (suc n) zero (x ∷ xs) (r ∷ rs) h k l = refl
 rooted-at (suc n) (suc i) (x ∷ xs) (r ∷ rs) h k l = rooted-at n i xs rs (omega arith) (omega arith) (omega arith)
 
+-- LAW: from n on the places stay
+pub rooted-beyond : (n i : ℕ) (xs rs : List Float) → n ≤ i → get_or (rooted n xs rs) i nan ≡ get_or rs i nan
+unfolding rooted
+rooted-beyond zero i xs rs h = refl
+rooted-beyond (suc n) i [] rs h = refl
+rooted-beyond (suc n) i (x ∷ xs) [] h = refl
+rooted-beyond (suc n) zero (x ∷ xs) (r ∷ rs) h = absurd (omega arith)
+rooted-beyond (suc n) (suc i) (x ∷ xs) (r ∷ rs) h = rooted-beyond n i xs rs (omega arith)
+
 -- places that one of the lists lacks make no difference
 pub rooted-least : (k n : ℕ) (xs rs : List Float) → k ≡ min (min n (length rs)) (length xs) → rooted k xs rs ≡ rooted n xs rs
 unfolding rooted
