@@ -53,7 +53,7 @@ pub record CallFits (c : Call) : Type 0 where
   pub inputs : inputs_ok c ≡ true
   pub frequencies : frequencies_ok c.shape.freq c.freq ≡ true
 
--- of a shape: no more samples and channels than a block has
+-- of a shape: a block, of as many samples and channels as are played at once
 abbrev pub BlockFits : Shape → Type 0
 BlockFits s = (s.samples ≤ max_samples) × (1 ≤ s.channels) × (s.channels ≤ max_channels)
 
