@@ -51,6 +51,7 @@ pub fn zero_coeffs() -> BiquadCoeffs
 }
 
 // The band whose centre is raw, which is held to its limits; all zero at a rate that no voice can have.
+#[tactic(auto, unfolding(crate::specs::Band::band_from))]
 pub fn init_band(raw: f32, sample_rate: f32) -> Band
     ensures { result ≡ band_from raw sample_rate }
 {

@@ -1,4 +1,4 @@
--- `init_band` meets its contract.
+-- A rate that is one, and the band of none. (The band of a rate is left to the search, which goes by the definition.)
 use Rattle.std.proofs.Common.{T, subst}
 use lib.Ieee.{of_bits, round}
 use lib.Ieee.Fits.{and_l, and_r}
@@ -11,10 +11,6 @@ unfolding of_bits round
 band_of-requires c =
     let t = subst T c.if-rate_ok.ensures tt in
     rate-is _ (and_l _ _ t) (and_r _ _ t)
-
-pub returns-then-rate_ok : goal.returns-then-rate_ok
-unfolding band_from
-returns-then-rate_ok c = rw (← c.if-rate_ok.ensures) c.band_of.ensures
 
 pub returns : goal.returns
 unfolding band_from of_bits round
