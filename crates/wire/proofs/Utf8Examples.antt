@@ -13,10 +13,14 @@ pub last-character : utf8 (0xF4 ∷ 0x8F ∷ 0xBF ∷ 0xBF ∷ []) ≡ true
 unfolding octets octet lead
 last-character = refl
 
--- 0 in two bytes, the first surrogate, the number after the last character
+-- 0 in two bytes and in three, the first surrogate, the number after the last character, and a first byte beyond its
 pub longer-form : utf8 (0xC0 ∷ 0x80 ∷ []) ≡ false
 unfolding octets octet lead
 longer-form = refl
+
+pub longer-form-three : utf8 (0xE0 ∷ 0x80 ∷ 0x80 ∷ []) ≡ false
+unfolding octets octet lead
+longer-form-three = refl
 
 pub surrogate : utf8 (0xED ∷ 0xA0 ∷ 0x80 ∷ []) ≡ false
 unfolding octets octet lead
@@ -26,7 +30,11 @@ pub past-last-character : utf8 (0xF4 ∷ 0x90 ∷ 0x80 ∷ 0x80 ∷ []) ≡ fals
 unfolding octets octet lead
 past-last-character = refl
 
--- U+20AC without its third byte, and a byte that only follows others
+pub past-last-byte : utf8 (0xF5 ∷ 0x80 ∷ 0x80 ∷ 0x80 ∷ []) ≡ false
+unfolding octets octet lead
+past-last-byte = refl
+
+-- U+20AC without its third byte, two bytes that only follow others, and a byte of its own within U+00E9
 pub cut_off : utf8 (0xE2 ∷ 0x82 ∷ []) ≡ false
 unfolding octets octet lead
 cut_off = refl
@@ -34,3 +42,11 @@ cut_off = refl
 pub alone : utf8 (0xA9 ∷ []) ≡ false
 unfolding octets octet lead
 alone = refl
+
+pub alone-first : utf8 (0x80 ∷ []) ≡ false
+unfolding octets octet lead
+alone-first = refl
+
+pub within : utf8 (0xC3 ∷ 0x41 ∷ 0xA9 ∷ []) ≡ false
+unfolding octets octet lead
+within = refl
