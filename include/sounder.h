@@ -201,8 +201,8 @@ struct sounder_answer sounder_to_bytes(const uint8_t *image, size_t image_len, u
  *
  * Refused, asked in this order: the first image's questions 1 to 7 with their values (image 1), then the second's (image 2), then 21, 22
  * and 23, without values (image 0). A target of 65,536 bytes holds every result. The images may overlap each other, or be one and the same;
- * the target may overlap neither. It takes some 24 KB of stack on x86-64, most of it an array of 2,340 keys of 8 bytes, in which the
- * entries are put in order: no result has more entries. (A voice is made of at most 16: question 8.)
+ * the target may overlap neither. It takes some 36 KB of stack on x86-64, most of it an array of 2,340 keys of 8 bytes, in which the
+ * entries are put in order, and one of half as many to join by: no result has more entries. (A voice is made of at most 16: question 8.)
  *
  * Entries whose pitches have the same 32 bits may stand in either order. Which of them a voice plays goes by that order, so who wants to
  * know what is heard has no pitch twice. */
