@@ -1,6 +1,8 @@
+-- By the library's answer alone, however the code makes a bool of it.
 use Prim.Native.Nat.{ℕ, ◌-◌}
 use mathlib.Core.Path.{◌≡◌, sym, ap, ◌∙◌}
 use mathlib.Core.List.{List}
+use native.Mathlib.Omega.{arith}
 use lib.ListN.{length, take, drop, length-drop}
 use lib.Seq.{take-length}
 use Rattle.std.proofs.lemmas.Result.{MatchResult-weaker}
@@ -17,7 +19,9 @@ returns c =
     let r = c.from_utf8.result in
     let s = c.args.s.now in
     let n = c.past_plain.result in
-    c.is_ok.ensures.value
-    ∙ tested (take (length s - n) (drop n s)) r (MatchResult-weaker r c.from_utf8.ensures (λ x h. h.1) (λ y h. h))
-    ∙ ap utf8 (rest_whole n s)
-    ∙ c.past_plain.ensures.1
+    let e : c.is_ok.result ≡ utf8 s =
+        c.is_ok.ensures.value
+        ∙ tested (take (length s - n) (drop n s)) r (MatchResult-weaker r c.from_utf8.ensures (λ x h. h.1) (λ y h. h))
+        ∙ ap utf8 (rest_whole n s)
+        ∙ c.past_plain.ensures.1 in
+    grind (arith, e)
