@@ -1,5 +1,5 @@
 -- The edges of a planner's windows as words: a minute of the week, or a day and a clock. The week starts on Monday at 00:00, its minute 0.
-use Rattle.std.specs.Prelude.{ℕ, ◌+◌, ◌-◌, ◌*◌, Bool, cond, ◌&&◌, List, length, Option, Some, None, ◌==◌, nat_le, slice_index}
+use Rattle.std.specs.Prelude.{ℕ, ◌+◌, ◌-◌, ◌*◌, Bool, false, cond, ◌&&◌, List, length, Option, Some, None, ◌==◌, nat_le, slice_index}
 use Rattle.std.specs.Option.{option_map}
 use Rattle.console.specs.declared.edges.Day.{Day}
 use Rattle.console.specs.declared.edges.Edge.{Edge}
@@ -48,16 +48,20 @@ hours_of w = two_digits (slice_index w 0) (slice_index w 1)
 abbrev pub minutes_of : List ℕ → Option ℕ
 minutes_of w = two_digits (slice_index w 3) (slice_index w 4)
 
--- five bytes with a colon (58) in the middle
+abbrev pub at_most : Option ℕ → ℕ → Bool
+at_most (Some n) limit = nat_le n limit
+at_most None limit = false
+
+-- HH:MM, from 00:00 to 23:59; the colon is 58
 abbrev pub is_clock : List ℕ → Bool
-is_clock w = length w == 5 && slice_index w 2 == 58
+is_clock w = length w == 5 && (slice_index w 2 == 58 && (at_most (hours_of w) 23 && at_most (minutes_of w) 59))
 
--- hours and minutes after the minute at which a day starts, from 00:00 to 23:59
-abbrev pub clock_after : ℕ → Option ℕ → Option ℕ → Option ℕ
-clock_after from (Some h) (Some m) = cond (nat_le h 23 && nat_le m 59) (Some (from + h * 60 + m)) None
-clock_after from (Some h) None = None
-clock_after from None m = None
+-- hours and minutes after the minute at which a day starts
+abbrev pub minute_after : ℕ → Option ℕ → Option ℕ → Option ℕ
+minute_after from (Some h) (Some m) = Some (from + h * 60 + m)
+minute_after from (Some h) None = None
+minute_after from None m = None
 
--- the minute of the week that a day and a clock, HH:MM, name
+-- the minute of the week that a day and a clock name
 unfoldable pub clock_of : Day → List ℕ → Option ℕ
-clock_of d w = cond (is_clock w) (clock_after (first_minute d) (hours_of w) (minutes_of w)) None
+clock_of d w = cond (is_clock w) (minute_after (first_minute d) (hours_of w) (minutes_of w)) None

@@ -65,14 +65,14 @@ unfoldable pub after_word : Line → List ℕ → Result Line Reason
 after_word l [] = Ok l
 after_word l (b ∷ w) = next_word l (b ∷ w)
 
--- where a line is no window it stays so, whatever follows
-abbrev pub unless_bad : Result Line Reason → List ℕ → Result Line Reason
-unless_bad (Ok l) w = after_word l w
-unless_bad (Err r) w = Err r
+-- a piece after those that came to a line so far: where that is no window it stays so, whatever follows
+abbrev pub after_piece : Result Line Reason → List ℕ → Result Line Reason
+after_piece (Ok l) w = after_word l w
+after_piece (Err r) w = Err r
 
 unfoldable pub after_words : Result Line Reason → List (List ℕ) → Result Line Reason
 after_words l [] = l
-after_words l (w ∷ ws) = after_words (unless_bad l w) ws
+after_words l (w ∷ ws) = after_words (after_piece l w) ws
 
 -- what a line says
 unfoldable pub line_of : List ℕ → Result Line Reason
@@ -92,6 +92,11 @@ with_window p n v = cond (nat_lt 64 p.plan.count) p (record { plan = placed p.pl
 -- the line with n lines above it is no window
 abbrev pub bad_line : ℕ → Reason → BadLine
 bad_line n r = record { above = n; reason = r }
+
+-- the windows that are left where a line is no bad one
+abbrev pub left_by : Result Unit BadLine → Planned → Result Planned BadLine
+left_by (Ok u) p = Ok p
+left_by (Err e) p = Err e
 
 -- what a line does to the windows above it: one that ends before its step has too few words
 abbrev pub with_line : Planned → ℕ → Result Line Reason → Result Planned BadLine

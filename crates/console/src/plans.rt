@@ -3,7 +3,7 @@
 ghost use Rattle.std.specs.Prelude.{◌≡◌, ◌≤◌};
 ghost use Rattle.console.specs.Edges.{edge_of};
 ghost use Rattle.console.specs.Plans.{is_blank, ended, first_word, next_word, after_word, line_of};
-ghost use Rattle.console.specs.Plans.{no_windows, placed, with_window, with_line, plan_of, minute_in};
+ghost use Rattle.console.specs.Plans.{no_windows, placed, with_window, left_by, with_line, plan_of, minute_in};
 
 use crate::decimal::read_whole;
 use crate::edges::{Day, Edge, read_clock, read_edge};
@@ -172,25 +172,28 @@ impl Planned {
 
     // With one window more, of a line with so many lines above it.
     #[tactic(auto, using(std::proofs::lemmas::Bool::Decides::nat_tests), unfolding(crate::specs::Plans::with_window))]
-    fn with_window(mut self, above: usize, v: Window) -> Planned
-        ensures { result ≡ with_window self above v }
+    fn with_window(&mut self, above: usize, v: Window)
+        ensures { self.new ≡ with_window self.old above v }
     {
         let n = self.plan.count as usize;
         if 64 < n {
-            return self;
+            return;
         }
         self.above[n] = above;
         self.plan = place(self.plan, v);
-        self
     }
 
-    // With the window of a line, or why it is none. A line that ends before its step has too few words.
-    fn with_line(self, above: usize, line: &[u8]) -> Result<Planned, BadLine>
-        ensures { result ≡ with_line self above (line_of line.now) }
+    // With the window of a line, or why it is none. A line that ends before its step has too few words. It is written where the plan
+    // lies: a text may have many lines without a window, and a plan is long.
+    fn with_line(&mut self, above: usize, line: &[u8]) -> Result<(), BadLine>
+        ensures { left_by result self.new ≡ with_line self.old above (line_of line.now) }
     {
         match line_of(line) {
-            Ok(Line::Empty) | Ok(Line::Comment) => Ok(self),
-            Ok(Line::Complete(v)) => Ok(self.with_window(above, v)),
+            Ok(Line::Empty) | Ok(Line::Comment) => Ok(()),
+            Ok(Line::Complete(v)) => {
+                self.with_window(above, v);
+                Ok(())
+            }
             Ok(_) => Err(BadLine {
                 above,
                 reason: Reason::TooFew,
@@ -204,10 +207,11 @@ impl Planned {
 pub fn read(text: &[u8]) -> Result<Planned, BadLine>
     ensures { result ≡ plan_of text.now }
 {
-    text.split(|b| *b == b'\n').enumerate().try_fold(
-        Planned::new(),
-        |planned, (above, line)| planned.with_line(above, line),
-    )
+    let mut planned = Planned::new();
+    for (above, line) in text.split(|b| *b == b'\n').enumerate() {
+        planned.with_line(above, line)?;
+    }
+    Ok(planned)
 }
 
 // The minute of the week that a text names, as an edge of a window does.
