@@ -14,8 +14,8 @@ fn highest(s: &[u8], from: usize) -> u8
     high
 }
 
-// Where the bytes below 0x80 end that stand at the start, 64 at a time: each is a character of its own. (Most names are of such bytes alone, and
-// this is the quickest way past them.)
+// Where the bytes below 0x80 end that stand at the start, 64 at a time: each is a character of its own. (Most names are of such bytes,
+// and this is the quickest way past them.)
 fn past_plain(s: &[u8]) -> usize
     ensures { (result ≤ length s.now) × (utf8 (drop result s.now) ≡ utf8 s.now) }
 {
@@ -28,8 +28,8 @@ fn past_plain(s: &[u8]) -> usize
     blocks * 64
 }
 
-// Whether the bytes are UTF-8. (What is left is tested by the library where it has 63 bytes at most, and from 64 on 64 at a time by the kit's
-// `simdutf8`: the library's own test goes character by character through what is not plain.)
+// Whether the bytes are UTF-8. (What is left is tested by the library where it has 63 bytes at most, and from 64 on 64 at a time by the
+// kit's `simdutf8`: the library's own test goes character by character through what is not plain.)
 pub fn from_utf8(s: &[u8]) -> bool
     ensures { result ≡ utf8 s.now }
 {

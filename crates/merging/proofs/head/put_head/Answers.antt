@@ -21,6 +21,6 @@ returns c =
     let room : 14 + length (name_of (decode c.args.first.image.now)) ≤ length c.args.first.image.now = w.room in
     let start : c.args.first.extent.at ≡ 14 + length (name_of (decode c.args.first.image.now)) = c.args.first.placed.start in
     let even = length-take-le (c.args.first.extent.at - 4) c.args.target.now (omega arith)
-        ∙ sym (length-take-le (c.args.first.extent.at - 4) c.args.first.image.now (omega arith)) in
+    ∙ sym (length-take-le (c.args.first.extent.at - 4) c.args.first.image.now (omega arith)) in
     head-written _ _ _ _ _ (begins-at _ c.args.first.bytes _ c.args.first.placed) c.args.first.placed.start c.requires _ _
     (c.copy.ensures ∙ copied-whole _ _ even) (c.copy_from_slice.ensures.after ∙ c.to_le_bytes.ensures)

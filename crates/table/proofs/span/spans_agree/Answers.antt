@@ -11,7 +11,7 @@ pub returns : goal.returns
 returns c =
     let a = c.args in
     let e : c.is_ok.result ≡ agrees (consistent (entry_at a.s.now a.v ∷ entry_at a.t.now a.w ∷ [])) =
-        c.is_ok.ensures.value
-        ∙ both-agree (entry_at a.s.now a.v) (entry_at a.t.now a.w) _
-        (rw (c.judge.ensures, c.span_of-2.ensures, c.judge-j.ensures, c.span_of.ensures) at c.conclude.ensures) in
+    c.is_ok.ensures.value
+    ∙ both-agree (entry_at a.s.now a.v) (entry_at a.t.now a.w) _
+    (rw (c.judge.ensures, c.span_of-2.ensures, c.judge-j.ensures, c.span_of.ensures) at c.conclude.ensures) in
     grind (arith, e)

@@ -20,8 +20,8 @@ returns c =
     let s = c.args.s.now in
     let n = c.past_plain.result in
     let e : c.is_ok.result ≡ utf8 s =
-        c.is_ok.ensures.value
-        ∙ tested (take (length s - n) (drop n s)) r (MatchResult-weaker r c.from_utf8.ensures (λ x h. h.1) (λ y h. h))
-        ∙ ap utf8 (rest_whole n s)
-        ∙ c.past_plain.ensures.1 in
+    c.is_ok.ensures.value
+    ∙ tested (take (length s - n) (drop n s)) r (MatchResult-weaker r c.from_utf8.ensures (λ x h. h.1) (λ y h. h))
+    ∙ ap utf8 (rest_whole n s)
+    ∙ c.past_plain.ensures.1 in
     grind (arith, e)
