@@ -86,8 +86,7 @@ impl Centres {
     }
 }
 
-// The centres that a text holds, or its first line that is none. (The plans' reader has the same expression over a step of its own: a
-// function of both would need a clause for any step, longer than the expression, and is no plainer.)
+// The centres that a text holds, or its first line that is none.
 pub fn read(text: &[u8]) -> Result<Centres, CentresError>
     ensures { result ≡ centres_of text.now }
 {

@@ -203,7 +203,8 @@ impl Planned {
     }
 }
 
-// The windows that a text holds, or its first line that is none. (Like the reader of centres, which says why that is no function of both.)
+// The windows that a text holds, or its first line that is none. (The reader of centres folds; a fold would hand the whole plan from line
+// to line.)
 pub fn read(text: &[u8]) -> Result<Planned, BadLine>
     ensures { result ≡ plan_of text.now }
 {
